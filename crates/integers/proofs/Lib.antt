@@ -1,0 +1,5 @@
+pub mod Tests
+pub mod OrderLaws
+pub mod Sums
+pub mod Products
+pub mod Bits

@@ -1,0 +1,6 @@
+-- Lists: what holds of every element.
+use mathlib.Core.List.{List, [], _∷_}
+
+abbrev pub All : {A : Type 0} → (A → Type 0) → List A → Type 0
+All P [] = Unit {0}
+All P (a ∷ l) = P a × All P l
