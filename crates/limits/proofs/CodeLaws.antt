@@ -1,0 +1,68 @@
+-- What the code's answers are, over plain variables: each way out of `charge`, of `Budget::charge`, and of the small functions around them.
+use Prim.Native.Nat.{ℕ, _+_, _-_, _*_, _/_, _%_, _^_, _<_, _≤_, min}
+use native.Mathlib.Omega.{arith}
+use mathlib.Core.Path.{_≡_, refl, sym, ap, _∙_}
+use borrow.Author.Tests.{le-leb, lt-leb}
+use Rattle.limits.specs.declared.Resource.{Resource}
+use Rattle.limits.specs.declared.Resource.the-variants.{ValueEntries}
+use Rattle.limits.specs.declared.Stop.{Stop}
+use Rattle.limits.specs.declared.Statistics.{Statistics}
+use Rattle.limits.specs.declared.Budget.{Budget}
+use Rattle.limits.specs.declared.Charged.{Charged}
+use Rattle.limits.specs.declared.Charged.the-variants.{Paid, Stopped}
+use Rattle.limits.specs.declared.Billed.{Billed}
+use Rattle.limits.specs.declared.Billed.the-variants.{Paid as Accepted, Stopped as Refused}
+use Rattle.limits.specs.Charge.{stopOf, chargeOf}
+use Rattle.limits.specs.Records.{limitOf, countOf, withCount, withWidened, withStatistics}
+use Rattle.limits.specs.Metered.{Run, going, stopped}
+use Rattle.limits.specs.Budget.{charge, charged, released, widenedOnce, ran}
+
+module _ (r : Resource) (old amount limit : ℕ) where
+  -- the halves of a sum over the limit
+  pub charge-over : (high low : ℕ) → limit < old + amount → old + amount ≡ high * 2 ^ 64 + low → low < 2 ^ 64 →
+      Stopped (record { resource = r; limit = limit; high = high; low = low }) ≡ chargeOf r old amount limit
+  unfolding chargeOf
+  charge-over high low p q b =
+      let e₁ : (old + amount) / 2 ^ 64 ≡ high = omega arith in
+      let e₂ : (old + amount) % 2 ^ 64 ≡ low = omega arith in
+      rw (lt-leb (old + amount) limit p, e₁, e₂)
+
+  pub charge-within : old + amount ≤ limit → Paid (old + amount) ≡ chargeOf r old amount limit
+  unfolding chargeOf
+  charge-within p = rw (le-leb (old + amount) limit p)
+
+-- the setter of a resource that a match has told
+pub at-resource : (r : Resource) (n : ℕ) (s : Statistics) {q : Resource} → q ≡ r → withCount r n s ≡ withCount q n s
+at-resource r n s e = ap (λ (x : Resource). withCount x n s) (sym e)
+
+module _ (r : Resource) (amount : ℕ) (b : Budget) {x : Charged} {count limit : ℕ} (c : count ≡ countOf r (b .statistics)) (l : limit ≡ limitOf r (b .limits))
+    (ran-charge : x ≡ chargeOf r count amount limit) where
+  billed : charged r b x ≡ charge r amount b
+  unfolding charge
+  billed = rw (ran-charge, c, l)
+
+  pub bill-paid : {n : ℕ} {s : Statistics} → x ≡ Paid n → s ≡ withCount r n (b .statistics) → ran (Accepted (withStatistics s b)) ≡ charge r amount b
+  bill-paid e p = rw p (sym (ap (charged r b) e) ∙ billed)
+
+  pub bill-stopped : {stop : Stop} → x ≡ Stopped stop → ran (Refused stop b) ≡ charge r amount b
+  bill-stopped e = sym (ap (charged r b) e) ∙ billed
+
+pub release-is : (b : Budget) (count : ℕ) {n : ℕ} {s : Statistics} → n ≡ b .statistics .entries - count → s ≡ withCount ValueEntries n (b .statistics) →
+    withStatistics s b ≡ released count b
+release-is b count e p = rw (p, e)
+
+module _ (b : Budget) where
+  pub widen-full : b .statistics .widened ≡ 2 ^ 64 - 1 → b ≡ widenedOnce b
+  widen-full e = rw e
+
+  pub widen-more : b .statistics .widened + 1 ≤ 2 ^ 64 - 1 → withStatistics (withWidened (b .statistics .widened + 1) (b .statistics)) b ≡ widenedOnce b
+  widen-more h = let e : min (b .statistics .widened + 1) (2 ^ 64 - 1) ≡ b .statistics .widened + 1 = omega arith in rw e
+
+-- ---- a caller's view of a charge: what the monad gives, from the code's answer
+
+module _ {x : Billed} {y : Run Stop Budget (Unit {0})} (h : ran x ≡ y) where
+  pub paid : {b : Budget} → x ≡ Accepted b → going tt b ≡ y
+  paid e = sym (ap ran e) ∙ h
+
+  pub broke : {e : Stop} {b : Budget} → x ≡ Refused e b → stopped e b ≡ y
+  broke e = sym (ap ran e) ∙ h
