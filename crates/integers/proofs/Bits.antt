@@ -14,12 +14,34 @@ use Rattle.integers.proofs.Sums.{one-zero, add-split, sub-split-ℤ, ne
 
 -- ---- what a test of two signed locals says of the numbers
 
-module _ {w : Width} {a b : ℤ} {t : Bool} (fa : SFits w a) (fb : SFits w b) where
-  pub lt-at : ltZ (toZ w (ofZ w a)) (toZ w (ofZ w b)) ≡ t → ltZ a b ≡ t
+module _ {w : Width} {a b : ℤ} (fa : SFits w a) (fb : SFits w b) where
+  pub lt-at : {t : Bool} → ltZ (toZ w (ofZ w a)) (toZ w (ofZ w b)) ≡ t → ltZ a b ≡ t
   lt-at e = rw (toZ-ofZ fa, toZ-ofZ fb) at e
 
-  pub le-at : leZ (toZ w (ofZ w a)) (toZ w (ofZ w b)) ≡ t → leZ a b ≡ t
+  pub le-at : {t : Bool} → leZ (toZ w (ofZ w a)) (toZ w (ofZ w b)) ≡ t → leZ a b ≡ t
   le-at e = rw (toZ-ofZ fa, toZ-ofZ fb) at e
+
+  -- what a callee says of two signed arguments
+  pub read₂ : {X : Type 0} {r : X} (f : ℤ → ℤ → X) → r ≡ f (toZ w (ofZ w a)) (toZ w (ofZ w b)) → r ≡ f a b
+  read₂ f e = rw (toZ-ofZ fa, toZ-ofZ fb) at e
+
+-- the least and the greatest of two signed locals, by a test
+module _ {w : Width} {a b : ℤ} (fa : SFits w a) (fb : SFits w b) where
+  pub min-yes : ltZ (toZ w (ofZ w a)) (toZ w (ofZ w b)) ≡ true → toZ w (ofZ w a) ≡ minZ a b
+  unfolding minZ
+  min-yes e = rw (lt-at fa fb e, toZ-ofZ fa)
+
+  pub min-no : ltZ (toZ w (ofZ w a)) (toZ w (ofZ w b)) ≡ false → toZ w (ofZ w b) ≡ minZ a b
+  unfolding minZ
+  min-no e = rw (lt-at fa fb e, toZ-ofZ fb)
+
+  pub max-yes : ltZ (toZ w (ofZ w a)) (toZ w (ofZ w b)) ≡ true → toZ w (ofZ w b) ≡ maxZ a b
+  unfolding maxZ
+  max-yes e = rw (lt-at fa fb e, toZ-ofZ fb)
+
+  pub max-no : ltZ (toZ w (ofZ w a)) (toZ w (ofZ w b)) ≡ false → toZ w (ofZ w a) ≡ maxZ a b
+  unfolding maxZ
+  max-no e = rw (lt-at fa fb e, toZ-ofZ fa)
 
 -- ---- a result of a call, whose type gives `mag z`
 
@@ -90,3 +112,11 @@ widens z f = rw (toZ-ofZ f) (sfits-widen {w = w32} tt f)
 
 pub widened-is : (z : ℤ) → SFits w32 z → toZ w64 (ofZ w64 (toZ w32 (ofZ w32 z))) ≡ z
 widened-is z f = rw (toZ-ofZ f, toZ-ofZ (sfits-widen {w = w32} {w′ = w64} tt f))
+
+-- an operation on two numbers of 32 bits, worked in 64: it fits, and it is exact
+module _ (f : ℤ → ℤ → ℤ) (fits : (a b : ℤ) → SFits w32 a → SFits w32 b → SFits w64 (f a b)) {a b : ℤ} (fa : SFits w32 a) (fb : SFits w32 b) where
+  pub worked-fits : SFits w64 (f (toZ w64 (ofZ w64 (toZ w32 (ofZ w32 a)))) (toZ w64 (ofZ w64 (toZ w32 (ofZ w32 b)))))
+  worked-fits = rw (widened-is a fa, widened-is b fb) (fits a b fa fb)
+
+  pub worked-is : toZ w64 (ofZ w64 (f (toZ w64 (ofZ w64 (toZ w32 (ofZ w32 a)))) (toZ w64 (ofZ w64 (toZ w32 (ofZ w32 b)))))) ≡ f a b
+  worked-is = rw (widened-is a fa, widened-is b fb) (toZ-ofZ (fits a b fa fb))

@@ -1,7 +1,7 @@
 -- Theorems about the charges, for every resource at once: when one is refused, what a refused one tells and leaves, what an accepted one adds.
 use Prim.Native.Nat.{ℕ, _+_, _-_, _*_, _/_, _%_, _^_, _<_, _≤_}
 use native.Mathlib.Omega.{arith}
-use mathlib.Core.Path.{_≡_, refl, sym, ap, _∙_}
+use mathlib.Core.Path.{_≡_, refl, sym, ap, subst, _∙_}
 use mathlib.Core.Logic.{_↔_}
 use mathlib.Core.Bool.{Bool, true, false, cond}
 use borrow.Author.Tests.{leb-true, leb-false, eqb-true, eqb-false, eq-eqb, ne-eqb}
@@ -89,7 +89,7 @@ module _ (r : Resource) (amount : ℕ) (b : Budget) where
     where
       go : (t : Bool) → leb (countOf r (b .statistics) + amount) (limitOf r (b .limits)) ≡ t →
           Charges r amount b
-          (charged r b (cond t (Paid (countOf r (b .statistics) + amount)) (Stopped (stopOf r (limitOf r (b .limits)) (countOf r (b .statistics) + amount)))))
+          (charged r b (cond t (Paid (countOf r (b .statistics) + amount)) (Stopped (stopOf r (limitOf r (b .limits)) (countOf r (b .statistics) + amount)) (countOf r (b .statistics)))))
       go true e = accepted (leb-true _ _ e)
       go false e = refused _ (leb-false _ _ e) refl refl (observed-is r (limitOf r (b .limits)) (countOf r (b .statistics) + amount))
 
@@ -105,12 +105,50 @@ module _ (r : Resource) (amount : ℕ) (b : Budget) where
       by-sum (accepted h) l = absurd (omega arith)
       by-sum (refused e h p q o) l = tt
 
+  -- a refused charge changes nothing and tells the resource, its limit and the exact sum
+  pub record Told (e : Stop) (b′ : Budget) : Type 0 where
+    pub unchanged : b′ ≡ b
+    pub resource : e .resource ≡ r
+    pub limit : e .limit ≡ limitOf r (b .limits)
+    pub sum : observed e ≡ countOf r (b .statistics) + amount
+
+  pub refused-tells : {e : Stop} {b′ : Budget} → charge r amount b ≡ stopped e b′ → Told e b′
+  refused-tells {e} {b′} h = go charge-does h
+    where
+      go : {x : Run Stop Budget (Unit {0})} → Charges r amount b x → x ≡ stopped e b′ → Told e b′
+      go (accepted l) q = let z : _≡_ {A = ℕ} 0 1 = cc in absurd (omega arith)
+      go (refused e₀ l p q o) k = record { unchanged = cc; resource = cc; limit = cc; sum = cc }
+
+  -- an accepted one adds exactly the amount to that one count
+  pub record Added (b′ : Budget) : Type 0 where
+    pub limits : b′ .limits ≡ b .limits
+    pub grown : countOf r (b′ .statistics) ≡ countOf r (b .statistics) + amount
+    pub others : (q : Resource) → (q ≡ r → ⊥) → countOf q (b′ .statistics) ≡ countOf q (b .statistics)
+    pub widened : b′ .statistics .widened ≡ b .statistics .widened
+
+  pub accepted-adds : {b′ : Budget} → charge r amount b ≡ going tt b′ → Added b′
+  accepted-adds {b′} h = go charge-does h
+    where
+      as-set : Added (withStatistics (withCount r (countOf r (b .statistics) + amount) (b .statistics)) b)
+      as-set = record {
+        limits = refl;
+        grown = count-with r (countOf r (b .statistics) + amount) (b .statistics);
+        others = count-other r (countOf r (b .statistics) + amount) (b .statistics);
+        widened = refl;
+      }
+
+      go : {x : Run Stop Budget (Unit {0})} → Charges r amount b x → x ≡ going tt b′ → Added b′
+      go (accepted l) k =
+          let e : withStatistics (withCount r (countOf r (b .statistics) + amount) (b .statistics)) b ≡ b′ = cc in
+          subst Added e as-set
+      go (refused e l p q o) k = let z : _≡_ {A = ℕ} 0 1 = cc in absurd (omega arith)
+
 -- ---- the charges of lattice and transfer are those of the budget
 
 inner-charged : (b : Budget) (x : Charged) → mapped (λ m. withMeter m b) (λ m. withMeter m b) (λ e. e) (inner.charged (λ n. inner.withWork n (meterOf b)) (meterOf b) x) ≡ charged Work b x
 unfolding mapped
 inner-charged b (Paid n) = refl
-inner-charged b (Stopped e) = refl
+inner-charged b (Stopped e n) = refl
 
 pub work-is : (amount : ℕ) (b : Budget) → metered (inner.work amount) b ≡ charge Work amount b
 unfolding through inner.work charge
@@ -119,7 +157,7 @@ work-is amount b = inner-charged b (chargeOf Work (b .statistics .work) amount (
 inner-retained : (b : Budget) (x : Charged) → mapped (λ m. withMeter m b) (λ m. withMeter m b) (λ e. e) (inner.charged (λ n. inner.withEntries n (meterOf b)) (meterOf b) x) ≡ charged ValueEntries b x
 unfolding mapped
 inner-retained b (Paid n) = refl
-inner-retained b (Stopped e) = refl
+inner-retained b (Stopped e n) = refl
 
 pub retain-is : (count : ℕ) (b : Budget) → metered (inner.retain count) b ≡ charge ValueEntries count b
 unfolding through inner.retain charge

@@ -20,7 +20,7 @@ use Rattle.limits.specs.Budget.{charge, charged, released, widenedOnce, 
 module _ (r : Resource) (old amount limit : ℕ) where
   -- the halves of a sum over the limit
   pub charge-over : (high low : ℕ) → limit < old + amount → old + amount ≡ high * 2 ^ 64 + low → low < 2 ^ 64 →
-      Stopped (record { resource = r; limit = limit; high = high; low = low }) ≡ chargeOf r old amount limit
+      Stopped (record { resource = r; limit = limit; high = high; low = low }) old ≡ chargeOf r old amount limit
   unfolding chargeOf
   charge-over high low p q b =
       let e₁ : (old + amount) / 2 ^ 64 ≡ high = omega arith in
@@ -44,7 +44,7 @@ module _ (r : Resource) (amount : ℕ) (b : Budget) {x : Charged} {count limit :
   pub bill-paid : {n : ℕ} {s : Statistics} → x ≡ Paid n → s ≡ withCount r n (b .statistics) → ran (Accepted (withStatistics s b)) ≡ charge r amount b
   bill-paid e p = rw p (sym (ap (charged r b) e) ∙ billed)
 
-  pub bill-stopped : {stop : Stop} → x ≡ Stopped stop → ran (Refused stop b) ≡ charge r amount b
+  pub bill-stopped : {stop : Stop} {n : ℕ} → x ≡ Stopped stop n → ran (Refused stop b) ≡ charge r amount b
   bill-stopped e = sym (ap (charged r b) e) ∙ billed
 
 pub release-is : (b : Budget) (count : ℕ) {n : ℕ} {s : Statistics} → n ≡ b .statistics .entries - count → s ≡ withCount ValueEntries n (b .statistics) →

@@ -15,7 +15,7 @@ use Rattle.limits.specs.Metered.{Run, going, stopped, Metered}
 -- what a charge of one count makes of the budget: a refused one changes nothing
 abbrev pub charged : Resource → Budget → Charged → Run Stop Budget (Unit {0})
 charged r b (Paid n) = going tt (withStatistics (withCount r n (b .statistics)) b)
-charged r b (Stopped e) = stopped e b
+charged r b (Stopped e n) = stopped e b
 
 unfoldable pub charge : Resource → ℕ → Metered Stop Budget (Unit {0})
 charge r amount b = charged r b (chargeOf r (countOf r (b .statistics)) amount (limitOf r (b .limits)))

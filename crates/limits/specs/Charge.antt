@@ -15,4 +15,4 @@ abbrev pub observed : Stop → ℕ
 observed s = s .high * 2 ^ 64 + s .low
 
 unfoldable pub chargeOf : Resource → ℕ → ℕ → ℕ → Charged
-chargeOf r old amount limit = cond (leb (old + amount) limit) (Paid (old + amount)) (Stopped (stopOf r limit (old + amount)))
+chargeOf r old amount limit = cond (leb (old + amount) limit) (Paid (old + amount)) (Stopped (stopOf r limit (old + amount)) old)

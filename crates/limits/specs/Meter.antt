@@ -28,7 +28,7 @@ withEntries n m = meter (m .work) (m .maxWork) n (m .maxEntries)
 -- what a charge of one count makes of the meter: `put` stores the new count, a refused one changes nothing
 abbrev pub charged : (ℕ → Meter) → Meter → Charged → Run Stop Meter (Unit {0})
 charged put m (Paid n) = going tt (put n)
-charged put m (Stopped e) = stopped e m
+charged put m (Stopped e n) = stopped e m
 
 unfoldable pub work : ℕ → Metered Stop Meter (Unit {0})
 work amount m = charged (λ n. withWork n m) m (chargeOf Work (m .work) amount (m .maxWork))

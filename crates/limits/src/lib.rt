@@ -69,10 +69,10 @@ pub enum Refusal {
     MissingSlot,
 }
 
-// What a charge makes of one count.
+// What a charge makes of one count, which comes back beside the outcome.
 pub enum Charged {
     Paid(u64),
-    Stopped(Stop),
+    Stopped(Stop, u64),
 }
 
 // The limits and the counts of one store.
@@ -87,27 +87,29 @@ pub enum Billed {
     Stopped(Stop, Budget),
 }
 
-// A count with `amount` more: refused exactly when the sum exceeds the limit.
+// A count with `amount` more: refused exactly when the sum exceeds the limit, and then as it was.
 pub fn charge(resource: Resource, old: u64, amount: u64, limit: u64) -> Charged
     ensures { λ r. ⌜ r ≡ chargeOf resource old amount limit ⌝ }
 {
     let room = 18446744073709551615 - old;
     if room < amount {
-        return Charged::Stopped(Stop {
+        let wide = Stop {
             resource,
             limit,
             high: 1,
             low: amount - room - 1,
-        });
+        };
+        return Charged::Stopped(wide, old);
     }
     let sum = old + amount;
     if limit < sum {
-        return Charged::Stopped(Stop {
+        let stop = Stop {
             resource,
             limit,
             high: 0,
             low: sum,
-        });
+        };
+        return Charged::Stopped(stop, old);
     }
     Charged::Paid(sum)
 }
@@ -265,7 +267,7 @@ impl Budget {
                 limits,
                 statistics: statistics.with(resource, count),
             }),
-            Charged::Stopped(stop) => Billed::Stopped(stop, self),
+            Charged::Stopped(stop, _) => Billed::Stopped(stop, self),
         }
     }
 

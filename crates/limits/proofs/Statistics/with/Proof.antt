@@ -1,65 +1,49 @@
+-- `limits::Statistics::with` meets its contract.
+use borrow.Author.Needs.{needs}
 use Rattle.limits.specs.declared.Resource.the-variants.{Work, Predicates, Positions, Links, ValueEntries, Rounds, InspectedBytes}
 use Rattle.limits.proofs.CodeLaws.{at-resource}
-use borrow.Author.Needs.{needs}
-use native.Mathlib.Omega.{arith}
 use Rattle.limits.proofs.Statistics.with.Statement.{statement}
 use Rattle.limits.proofs.Statistics.with.Tie as tie
-use Rattle.limits.proofs.Statistics.with.Reads as reads
-use Rattle.limits.proofs.Statistics.with.Lts as lts
 
--- src/lib.rt:201:17
 enum-told : tie.Need-enum-told
 enum-told c = search needs
 
--- src/lib.rt:205:17
 enum-told-2 : tie.Need-enum-told-2
 enum-told-2 c = search needs
 
--- src/lib.rt:209:17
 enum-told-3 : tie.Need-enum-told-3
 enum-told-3 c = search needs
 
--- src/lib.rt:213:17
 enum-told-4 : tie.Need-enum-told-4
 enum-told-4 c = search needs
 
--- src/lib.rt:217:17
 enum-told-5 : tie.Need-enum-told-5
 enum-told-5 c = search needs
 
--- src/lib.rt:221:17
 enum-told-6 : tie.Need-enum-told-6
 enum-told-6 c = search needs
 
--- src/lib.rt:225:17
 enum-told-7 : tie.Need-enum-told-7
 enum-told-7 c = search needs
 
--- src/lib.rt:196:5
 returns : tie.Need-returns
 returns c = at-resource Work _ _ (c .enum-told .given .1)
 
--- src/lib.rt:196:5
 returns-2 : tie.Need-returns-2
 returns-2 c = at-resource Predicates _ _ (c .enum-told2 .given .1)
 
--- src/lib.rt:196:5
 returns-3 : tie.Need-returns-3
 returns-3 c = at-resource Positions _ _ (c .enum-told3 .given .1)
 
--- src/lib.rt:196:5
 returns-4 : tie.Need-returns-4
 returns-4 c = at-resource Links _ _ (c .enum-told4 .given .1)
 
--- src/lib.rt:196:5
 returns-5 : tie.Need-returns-5
 returns-5 c = at-resource ValueEntries _ _ (c .enum-told5 .given .1)
 
--- src/lib.rt:196:5
 returns-6 : tie.Need-returns-6
 returns-6 c = at-resource Rounds _ _ (c .enum-told6 .given .1)
 
--- src/lib.rt:196:5
 returns-7 : tie.Need-returns-7
 returns-7 c = at-resource InspectedBytes _ _ (c .enum-told7 .given .1)
 
