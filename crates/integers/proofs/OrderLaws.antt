@@ -4,11 +4,11 @@ use native.Mathlib.Omega.{arith}
 use mathlib.Core.Path.{_≡_, refl, sym, ap, subst}
 use mathlib.Core.Logic.{_↔_}
 use mathlib.Core.Bool.{Bool, true, false, cond, _&&_}
-use borrow.Author.Tests.{ltb-true, ltb-false, leb-true, leb-false, lt-ltb, le-ltb, le-leb, lt-leb}
+use borrow.Author.Tests.{ltb-true, ltb-false, leb-true, leb-false, eqb-true, lt-ltb, le-ltb, le-leb, lt-leb, eq-eqb, ne-eqb}
 use lib.Dec.{T}
 use lib.IntN.{ℤ, pos, negsuc}
 use lib.Signed.{ltZ, leZ, _≤ℤ_, _<ℤ_}
-use Rattle.integers.specs.Order.{up, dn, Le, Lt, minZ, maxZ, least32, greatest32, Number, number?}
+use Rattle.integers.specs.Order.{up, dn, Le, Lt, eqZ, minZ, maxZ, least32, greatest32, Number, number?}
 use Rattle.integers.proofs.Tests.{by-cond, and-left, and-right}
 
 -- ---- from a test to the order, and back
@@ -60,6 +60,25 @@ no-le (pos a) (pos b) h = lt-leb a b (omega arith)
 no-le (pos a) (negsuc b) h = refl
 no-le (negsuc a) (pos b) h = absurd (omega arith)
 no-le (negsuc a) (negsuc b) h = lt-leb b a (omega arith)
+
+pub eq-yes : (a b : ℤ) → eqZ a b ≡ true → a ≡ b
+eq-yes (pos a) (pos b) e = ap pos (eqb-true a b e)
+eq-yes (pos a) (negsuc b) e = let z : _≡_ {A = ℕ} 0 1 = cc in absurd (omega arith)
+eq-yes (negsuc a) (pos b) e = let z : _≡_ {A = ℕ} 0 1 = cc in absurd (omega arith)
+eq-yes (negsuc a) (negsuc b) e = ap negsuc (eqb-true a b e)
+
+pub yes-eq : (a b : ℤ) → a ≡ b → eqZ a b ≡ true
+yes-eq a b e = rw e (self b)
+  where
+    self : (b : ℤ) → eqZ b b ≡ true
+    self (pos b) = eq-eqb b b refl
+    self (negsuc b) = eq-eqb b b refl
+
+pub no-eq : (a b : ℤ) → (a ≡ b → ⊥) → eqZ a b ≡ false
+no-eq (pos a) (pos b) d = ne-eqb a b (λ e. d (ap pos e))
+no-eq (pos a) (negsuc b) d = refl
+no-eq (negsuc a) (pos b) d = refl
+no-eq (negsuc a) (negsuc b) d = ne-eqb a b (λ e. d (ap negsuc e))
 
 -- by a test: `f` where it holds, `g` where not
 pub by-lt {ℓ} : (P : Bool → Type ℓ) (a b : ℤ) → (Lt a b → P true) → (Le b a → P false) → P (ltZ a b)

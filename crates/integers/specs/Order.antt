@@ -2,7 +2,8 @@
 -- An integer is `up` less `dn`, of which one is 0, so that `a` is at most `b` exactly if `up a + dn b ≤ up b + dn a`: linear over ℕ,
 -- and `omega` does all order reasoning. That this is the library's `_≤ℤ_` is `Le-is` of proofs/OrderLaws.antt.
 use Prim.Native.Nat.{ℕ, suc, _+_, _≤_, _<_}
-use mathlib.Core.Bool.{Bool, cond, _&&_}
+use mathlib.Core.Bool.{Bool, false, cond, _&&_}
+use lib.Dec.{eqb}
 use lib.IntN.{ℤ, pos, negsuc}
 use lib.Signed.{ltZ, leZ}
 
@@ -23,6 +24,13 @@ Lt a b = up a + dn b < up b + dn a
 -- z lies between two ends, both included
 abbrev pub Between : ℤ → ℤ → ℤ → Type 0
 Between low high z = Le low z × Le z high
+
+-- the test of equality
+abbrev pub eqZ : ℤ → ℤ → Bool
+eqZ (pos a) (pos b) = eqb a b
+eqZ (pos a) (negsuc b) = false
+eqZ (negsuc a) (pos b) = false
+eqZ (negsuc a) (negsuc b) = eqb a b
 
 unfoldable pub minZ : ℤ → ℤ → ℤ
 minZ a b = cond (ltZ a b) a b

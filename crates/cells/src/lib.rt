@@ -1,0 +1,33 @@
+//! Cells of lent tables: a cell that may lie beyond its table, and numbers of 32 signed bits in unsigned cells.
+ghost use mathlib.Core.Path.{_≡_};
+ghost use lib.ListN.{getD};
+ghost use Rattle.cells.specs.Cells.{toCell, ofCell};
+
+// A cell, or 0 beyond the table.
+pub fn cell_at(cells: &[u32], i: usize) -> u32
+    ensures { λ r. ⌜ r ≡ getD (now (cells .entry)) i 0 ⌝ }
+{
+    if i < cells.len() {
+        return cells[i];
+    }
+    0
+}
+
+// A number as its cell holds it: shifted up by 2^31.
+pub fn to_cell(number: i32) -> u32
+    ensures { λ r. ⌜ r ≡ toCell number ⌝ }
+{
+    if number < 0 {
+        return 2147483647 - ((-1 - number) as u32);
+    }
+    2147483648 + (number as u32)
+}
+
+pub fn of_cell(cell: u32) -> i32
+    ensures { λ r. ⌜ r ≡ ofCell cell ⌝ }
+{
+    if cell < 2147483648 {
+        return -1 - ((2147483647 - cell) as i32);
+    }
+    (cell - 2147483648) as i32
+}

@@ -1,0 +1,3 @@
+pub mod Cousot
+pub mod Interval
+pub mod Bound
