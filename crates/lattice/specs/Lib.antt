@@ -1,1 +1,4 @@
 pub mod Value
+pub mod Constants
+pub mod Lists
+pub mod Lattice
