@@ -83,15 +83,15 @@ join width u v = work 1 >> joinLists width (hullBound (u .bound) (v .bound)) (fi
 -- whether both values permit an id
 unfoldable pub permitted : Value → Value → ℕ → Metered Stop Meter Bool
 permitted u v i = do
-  yes ← permits (u .values) i
-  cond yes (permits (v .values) i) (pure false)
+  mine ← permits (u .values) i
+  cond mine (permits (v .values) i) (pure false)
 
 -- whether an id of the shorter list stays: both permit it, and the bound allows its constant
 unfoldable pub keepOne : Value → Value → Bound → List ℕ → ℕ → ℕ → Metered Stop Meter Bool
 keepOne u v b constants n i = do
   holding n (work 1)
-  yes ← holding n (permitted u v i)
-  cond (yes && allowsOf b (constantAt constants i)) (push n >> pure true) (pure false)
+  both ← holding n (permitted u v i)
+  cond (both && allowsOf b (constantAt constants i)) (push n >> pure true) (pure false)
 
 unfoldable pub sift : Value → Value → Bound → List ℕ → List ℕ → List ℕ → Metered Stop Meter (List ℕ)
 sift u v b constants kept [] = pure kept

@@ -5,6 +5,7 @@ use mathlib.Core.Path.{_≡_, sym, _∙_}
 use mathlib.Core.Bool.{Bool, true, false, cond}
 use borrow.Author.Tests.{lt-ltb, le-ltb}
 use lib.Dec.{ltb}
+use Rattle.integers.proofs.ListLaws.{Compared, less, more, same, compared}
 use Rattle.limits.specs.declared.Stop.{Stop}
 use Rattle.limits.specs.Metered.{Run, going, stopped, pure, after, _>>=_, _>>_}
 use Rattle.limits.specs.Meter.{Meter, work}
@@ -52,3 +53,29 @@ is-greater a b h = rw (le-ltb a b (omega arith), lt-ltb b a h)
 
 pub is-equal : (a b : ℕ) → a ≤ b → b ≤ a → compareℕ a b ≡ Equal
 is-equal a b h k = rw (le-ltb a b k, le-ltb b a h)
+
+-- ---- and back
+
+pub less-is : (a b : ℕ) → compareℕ a b ≡ Less → a < b
+less-is a b e = go (compared a b)
+  where
+    go : Compared a b → a < b
+    go (less h) = h
+    go (more h) = let g = is-greater a b h in let z : _≡_ {A = ℕ} 0 1 = cc in absurd (omega arith)
+    go (same h) = let g = is-equal a b (omega arith) (omega arith) in let z : _≡_ {A = ℕ} 0 1 = cc in absurd (omega arith)
+
+pub greater-is : (a b : ℕ) → compareℕ a b ≡ Greater → b < a
+greater-is a b e = go (compared a b)
+  where
+    go : Compared a b → b < a
+    go (less h) = let g = is-less a b h in let z : _≡_ {A = ℕ} 0 1 = cc in absurd (omega arith)
+    go (more h) = h
+    go (same h) = let g = is-equal a b (omega arith) (omega arith) in let z : _≡_ {A = ℕ} 0 1 = cc in absurd (omega arith)
+
+pub equal-is : (a b : ℕ) → compareℕ a b ≡ Equal → a ≡ b
+equal-is a b e = go (compared a b)
+  where
+    go : Compared a b → a ≡ b
+    go (less h) = let g = is-less a b h in let z : _≡_ {A = ℕ} 0 1 = cc in absurd (omega arith)
+    go (more h) = let g = is-greater a b h in let z : _≡_ {A = ℕ} 0 1 = cc in absurd (omega arith)
+    go (same h) = h
