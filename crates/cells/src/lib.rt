@@ -17,17 +17,13 @@ pub fn cell_at(cells: &[u32], i: usize) -> u32
 pub fn to_cell(number: i32) -> u32
     ensures { λ r. ⌜ r ≡ toCell number ⌝ }
 {
-    if number < 0 {
-        return 2147483647 - ((-1 - number) as u32);
-    }
-    2147483648 + (number as u32)
+    let shifted = number as i64 + 2147483648;
+    shifted as u32
 }
 
 pub fn of_cell(cell: u32) -> i32
     ensures { λ r. ⌜ r ≡ ofCell cell ⌝ }
 {
-    if cell < 2147483648 {
-        return -1 - ((2147483647 - cell) as i32);
-    }
-    (cell - 2147483648) as i32
+    let shifted = cell as i64 - 2147483648;
+    shifted as i32
 }
