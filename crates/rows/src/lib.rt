@@ -1,0 +1,252 @@
+//! Abstract values in lent tables: a row of ROW cells for each. Cells beyond a table read as 0 and are not written, so that
+//! any table and any row number will do; any contents read as a value.
+ghost use mathlib.Core.Path.{_≡_};
+ghost use Prim.Native.Nat.{min, _+_, _-_, _*_, _≤_};
+ghost use lib.ListN.{length, getD, take, drop};
+ghost use lib.Seq.{sets};
+ghost use Rattle.cells.specs.Cells.{ofCell};
+ghost use Rattle.lattice.specs.Value.{valueOf, reasonNumber};
+ghost use Rattle.rows.specs.Row.{row, padded, integralityCell, caseCell, lowCell, highCell, keptCell, listOf, integralityOf, intervalOf, reasonOf, idsOf, valueAt, put};
+use cells::cell_at;
+use cells::of_cell;
+use cells::put_cell;
+use cells::to_cell;
+use interval::Bound;
+use interval::Integrality;
+use interval::Interval;
+use lattice::Abstract;
+use lattice::Reason;
+use lattice::Widening;
+
+// The cells of a row: integrality, the interval's case and two ends, whether there is a list, its length, the reason,
+// 16 ids, and one unused.
+pub const ROW: usize = 24;
+
+// Where a row begins. All rows beyond the table begin at its end.
+fn start(len: usize, number: usize) -> usize
+    ensures { λ r. ⌜ r ≡ min (row * number) len ⌝ }
+{
+    if len / ROW < number {
+        return len;
+    }
+    ROW * number
+}
+
+fn at_most_16(n: usize) -> usize
+    ensures { λ r. ⌜ r ≡ min n 16 ⌝ }
+{
+    if n < 16 {
+        return n;
+    }
+    16
+}
+
+fn integrality_of(cell: u32) -> Integrality
+    ensures { λ r. ⌜ r ≡ integralityOf cell ⌝ }
+{
+    if cell == 0 {
+        return Integrality::Integer;
+    }
+    Integrality::Mixed
+}
+
+fn interval_of(number: u32, low: u32, high: u32) -> Interval
+    ensures { λ r. ⌜ r ≡ intervalOf number (ofCell low) (ofCell high) ⌝ }
+{
+    if number == 2 {
+        return Interval::Unbounded;
+    }
+    if number != 1 {
+        return Interval::Bottom;
+    }
+    let low = of_cell(low);
+    let high = of_cell(high);
+    if low <= high {
+        return Interval::Bounded { low, high };
+    }
+    Interval::Bottom
+}
+
+fn reason_of(cell: u32) -> Reason
+    ensures { λ r. ⌜ r ≡ reasonOf cell ⌝ }
+{
+    if cell == 1 {
+        return Reason::Some(Widening::HeadForm);
+    }
+    if cell == 2 {
+        return Reason::Some(Widening::HeadTerm);
+    }
+    if cell == 3 {
+        return Reason::Some(Widening::UnboundVariable);
+    }
+    if cell == 4 {
+        return Reason::Some(Widening::SymbolSize);
+    }
+    if cell == 5 {
+        return Reason::Some(Widening::ValueWidth);
+    }
+    if cell == 6 {
+        return Reason::Some(Widening::Dependency);
+    }
+    Reason::None
+}
+
+// The ids of the row that begins at `at`.
+fn ids_at(cells: &[u32], at: usize) -> [u16; 16]
+    requires { ⌜ at ≤ length (now cells) ⌝ }
+    ensures { λ r. ⌜ r ≡ idsOf (padded row (drop at (now (cells .entry)))) ⌝ }
+{
+    let mut ids = [0u16; 16];
+    let mut j = 0;
+    while j < 16 {
+        let id = cell_at(cells, at + 7 + j) % 65536;
+        ids[j] = id as u16;
+        j += 1;
+    }
+    ids
+}
+
+pub fn abstract_at(cells: &[u32], row: usize) -> Abstract
+    ensures { λ r. ⌜ valueOf r ≡ valueAt (now (cells .entry)) row ⌝ }
+{
+    let at = start(cells.len(), row);
+    let integrality = integrality_of(cell_at(cells, at));
+    let interval = interval_of(
+        cell_at(cells, at + 1),
+        cell_at(cells, at + 2),
+        cell_at(cells, at + 3),
+    );
+    let kept = cell_at(cells, at + 4) != 0;
+    let len = at_most_16(cell_at(cells, at + 5) as usize);
+    let reason = reason_of(cell_at(cells, at + 6));
+    let ids = ids_at(cells, at);
+    Abstract {
+        bound: Bound {
+            integrality,
+            interval,
+        },
+        ids,
+        len,
+        kept,
+        reason,
+    }
+}
+
+fn integrality_cell(integrality: Integrality) -> u32
+    ensures { λ r. ⌜ r ≡ integralityCell integrality ⌝ }
+{
+    match integrality {
+        Integrality::Integer => 0,
+        Integrality::Mixed => 1,
+    }
+}
+
+fn case_cell(interval: Interval) -> u32
+    ensures { λ r. ⌜ r ≡ caseCell interval ⌝ }
+{
+    match interval {
+        Interval::Bottom => 0,
+        Interval::Bounded { low: _, high: _ } => 1,
+        Interval::Unbounded => 2,
+    }
+}
+
+fn low_cell(interval: Interval) -> u32
+    ensures { λ r. ⌜ r ≡ lowCell interval ⌝ }
+{
+    match interval {
+        Interval::Bottom => 0,
+        Interval::Bounded { low, high: _ } => to_cell(low),
+        Interval::Unbounded => 0,
+    }
+}
+
+fn high_cell(interval: Interval) -> u32
+    ensures { λ r. ⌜ r ≡ highCell interval ⌝ }
+{
+    match interval {
+        Interval::Bottom => 0,
+        Interval::Bounded { low: _, high } => to_cell(high),
+        Interval::Unbounded => 0,
+    }
+}
+
+fn reason_cell(reason: Reason) -> u32
+    ensures { λ r. ⌜ r ≡ reasonNumber reason ⌝ }
+{
+    match reason {
+        Reason::None => 0,
+        Reason::Some(widening) => match widening {
+            Widening::HeadForm => 1,
+            Widening::HeadTerm => 2,
+            Widening::UnboundVariable => 3,
+            Widening::SymbolSize => 4,
+            Widening::ValueWidth => 5,
+            Widening::Dependency => 6,
+        },
+    }
+}
+
+fn kept_cell(value: Abstract) -> u32
+    ensures { λ r. ⌜ r ≡ keptCell (valueOf value .values) ⌝ }
+{
+    if value.kept {
+        return 1;
+    }
+    0
+}
+
+// The length of the list: none has length 0.
+fn list_len(value: Abstract) -> usize
+    ensures { λ r. ⌜ r ≡ length (listOf (valueOf value .values)) ⌝ }
+{
+    if value.kept {
+        return at_most_16(value.len);
+    }
+    0
+}
+
+// An id of the list, or 0 behind it.
+fn id_at(ids: [u16; 16], len: usize, j: usize) -> u32
+    ensures { λ r. ⌜ r ≡ getD (take len ids) j 0 ⌝ }
+{
+    if 16 <= j {
+        return 0;
+    }
+    if len <= j {
+        return 0;
+    }
+    ids[j] as u32
+}
+
+// The list's ids, and 0 behind them, into the row that begins at `at`.
+fn put_ids(cells: &mut [u32], at: usize, ids: [u16; 16], len: usize)
+    requires { ⌜ at ≤ length (now cells) ⌝ }
+    ensures { λ _. ⌜ now (cells .exit) ≡ sets (now (cells .entry)) (at + 7) (padded (row - 7) (take len ids)) ⌝ }
+{
+    let mut j = 0;
+    while j < ROW - 7 {
+        put_cell(cells, at + 7 + j, id_at(ids, len, j));
+        j += 1;
+    }
+}
+
+pub fn put_abstract(cells: &mut [u32], row: usize, value: Abstract)
+    ensures { λ _. ⌜ now (cells .exit) ≡ put (now (cells .entry)) row (valueOf value) ⌝ }
+{
+    let at = start(cells.len(), row);
+    let bound = value.bound;
+    let integrality = bound.integrality;
+    let interval = bound.interval;
+    let reason = value.reason;
+    let ids = value.ids;
+    let len = list_len(value);
+    put_cell(cells, at, integrality_cell(integrality));
+    put_cell(cells, at + 1, case_cell(interval));
+    put_cell(cells, at + 2, low_cell(interval));
+    put_cell(cells, at + 3, high_cell(interval));
+    put_cell(cells, at + 4, kept_cell(value));
+    put_cell(cells, at + 5, len as u32);
+    put_cell(cells, at + 6, reason_cell(reason));
+    put_ids(cells, at, ids, len);
+}
