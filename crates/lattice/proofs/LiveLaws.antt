@@ -43,10 +43,10 @@ push-lives n = live-holding n (live-retain 1)
 work-lives : (n amount : ℕ) → Lives n (λ _. n) (holding n (work amount))
 work-lives n amount = live-beside n (live-work amount)
 
-retain-all-lives : (n : ℕ) (l : List ℕ) → Lives n (λ _. n + length l) (retainAll n l)
+retain-all-lives : (n count : ℕ) → Lives n (λ _. n + count) (retainAll n count)
 unfolding retainAll
-retain-all-lives n [] = live-pure n tt (omega arith)
-retain-all-lives n (i ∷ l) = live-then (push-lives n) (let e : n + suc (length l) ≡ n + 1 + length l = omega arith in rw e (retain-all-lives (n + 1) l))
+retain-all-lives n zero = live-pure n tt (omega arith)
+retain-all-lives n (suc count) = live-then (push-lives n) (live-as (λ _. omega arith) (retain-all-lives (n + 1) count))
 
 take-lives : (width n : ℕ) → Lives n (λ t. cond t (n + 1) 0) (takeOne width n)
 unfolding takeOne
@@ -102,7 +102,7 @@ constant-lives id Large width = live-pure 0 _ refl
 
 copied-list-lives : (o : Option (List ℕ)) → Lives 0 (λ _. listSize o) (copiedList o)
 copied-list-lives none = live-pure 0 tt refl
-copied-list-lives (some l) = live-then (live-work (length l)) (live-as (λ _. omega arith) (retain-all-lives 0 l))
+copied-list-lives (some l) = live-then (live-work (length l)) (live-as (λ _. omega arith) (retain-all-lives 0 (length l)))
 
 pub copied-lives : (v : Value) → Lives 0 size (copied v)
 unfolding copied

@@ -45,7 +45,7 @@ constant id Large width = pure (value (bounds.constantOf Large) none (Some Symbo
 
 abbrev pub copiedList : Option (List ℕ) → Metered Stop Meter (Unit {0})
 copiedList none = pure tt
-copiedList (some l) = work (length l) >> retainAll 0 l
+copiedList (some l) = work (length l) >> retainAll 0 (length l)
 
 unfoldable pub copied : Value → Metered Stop Meter Value
 copied v = work 1 >> copiedList (v .values) >> pure v

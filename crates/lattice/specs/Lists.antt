@@ -1,5 +1,5 @@
 -- Lists of constant ids, strictly increasing: their union, whether one has an id, and the charge of their entries.
-use Prim.Native.Nat.{ℕ, _+_, min}
+use Prim.Native.Nat.{ℕ, zero, suc, _+_, min}
 use mathlib.Core.Bool.{Bool, true, false, cond}
 use mathlib.Core.List.{List, [], _∷_, _++_}
 use mathlib.Core.Option.{Option, some, none}
@@ -24,10 +24,10 @@ union (x ∷ xs) ys = mix x (union xs) ys
 unfoldable pub push : ℕ → Metered Stop Meter (Unit {0})
 push n = holding n (retain 1)
 
--- a list's entries, one by one, of which n are live
-unfoldable pub retainAll : ℕ → List ℕ → Metered Stop Meter (Unit {0})
-retainAll n [] = pure tt
-retainAll n (i ∷ l) = push n >> retainAll (n + 1) l
+-- a list's entries, one by one: n are live, `count` are still to come
+unfoldable pub retainAll : ℕ → ℕ → Metered Stop Meter (Unit {0})
+retainAll n zero = pure tt
+retainAll n (suc count) = push n >> retainAll (n + 1) count
 
 -- one step of a merge: whether one more id fits the width. The array has 16 places; a width over 16 is refused with the store.
 unfoldable pub takeOne : ℕ → ℕ → Metered Stop Meter Bool
