@@ -134,7 +134,7 @@ def some_rule(store, rng):
         repeat = operands and rng.random() < 0.3
         value = rng.choice(operands) if repeat else expression(store, rng, slots, 2)
         heads.append([rng.choice(store.arguments), value])
-    if rng.random() < 0.07:
+    if rng.random() < 0.12:
         broken_rule(store, rng, slots, body, guards, heads)
     store.rule(slots, body, guards, heads)
 
@@ -148,7 +148,9 @@ def broken_rule(store, rng, slots, body, guards, heads):
         if item[0] < 3:
             faults.append((item, rng.randrange(2, len(item)), 5000))
     for item in copies[1]:
-        faults.append((item, rng.choice([1, 3]), 5000 if item[0] == 0 else slots + 5000))
+        if item[0] == 1:
+            faults.append((item, 1, slots))
+        faults.append((item, rng.choice([1, 3]) if item[0] == 0 else rng.choice([2, 3]), 5000))
     for item in copies[2]:
         faults.append((item, rng.randrange(2), 5000))
     if not faults:
@@ -265,6 +267,41 @@ def counter(rng):
             guards.append(member(0, store.constant(at(-30, 0)), store.constant(at(0, 40))))
         maybe_context(store, rng, 0.15)
         store.rule(1, [positive(0, source)], guards, [[target, value]])
+    store.run()
+    return store
+
+
+def descent(rng):
+    """A counter that goes down, or both ways, past many thresholds: their search starts at the top."""
+    store = new_store(rng)
+    (argument,) = store.predicate(1)
+    store.seed_number(argument, rng.randint(-3, 3))
+    for _ in range(rng.randint(3, 12)):
+        store.number(rng.randint(-60, 60))
+    x, step = store.slot(0), store.constant(rng.choice([1, 2, 7]))
+    bottom, top = store.constant(rng.randint(-50, -5)), store.constant(rng.randint(5, 50))
+    down, up = store.binary(SUB, x, step), store.binary(ADD, x, step)
+    store.rule(1, [positive(0, argument)], [compare(x, GT, bottom)], [[argument, down]])
+    if rng.random() < 0.5:
+        store.rule(1, [positive(0, argument)], [compare(x, LT, top)], [[argument, up]])
+    store.run()
+    return store
+
+
+def bodies(rng):
+    """One rule with every kind of binding and guard, over expressions of some size."""
+    store = new_store(rng)
+    arguments = store.predicate(2)
+    seeds_of = [some_key(store, rng) for _ in range(3)]
+    for key in seeds_of:
+        store.seed_value(rng.choice(arguments), key)
+    some = lambda: expression(store, rng, 3, 3)
+    body = [positive(0, arguments[0]), assign(1, some()), between(2, some(), some()), aggregate(2, rng.randrange(5)),
+            positive(1, arguments[1]), assign(0, some()), between(1, some(), some())]
+    guards = [member(0, some(), some()), compare(some(), rng.choice(RELATIONS), some()), member(2, some(), some())]
+    heads = [[rng.choice(arguments), some()] for _ in range(2)]
+    broken_rule(store, rng, 3, body, guards, heads)
+    store.rule(3, rng.sample(body, rng.randint(1, len(body))), guards, heads)
     store.run()
     return store
 
@@ -682,8 +719,9 @@ def full_provenance(rng):
     for _ in range(rng.randint(10, 20)):
         store.seed_value(rng.randrange(2), 0)
     for _ in range(5):
-        rng.choice([lambda: store.seed_value(0, 0), lambda: store.seed_interval(1, 0, 4), lambda: store.seed_interval(1, 4, 0),
-                    lambda: store.rule(1, refused=True), lambda: store.call(22, 1, 0, 0, 2, 0, x, 1, x, 0),
+        rng.choice([lambda: store.seed_value(0, 0), lambda: store.seed_interval(1, 0, 4),
+                    lambda: store.seed_interval(1, 4, 0), lambda: store.rule(1, refused=True),
+                    lambda: store.call(22, 1, 0, 0, 2, 0, x, 1, x, 0),
                     lambda: store.context(77), lambda: store.seed_value(9, 9)])()
     store.run()
     return store
@@ -691,11 +729,12 @@ def full_provenance(rng):
 
 # (a family, its share, whether a tight limit may be put on it)
 FAMILIES = [
-    (program, 30, True), (counter, 14, True), (late_growth, 5, True), (guards_alone, 14, True), (lists, 12, True),
-    (identities, 5, True), (products, 4, True), (reasons, 10, True), (sharing, 3, False), (contexts, 8, True),
-    (starved, 8, False), (refusals, 5, False), (invalid_seeds, 5, False), (nesting, 2, True), (facts_only, 4, True),
-    (keys, 4, True), (full_predicates, 1, False), (full_constants, 0.2, False), (full_expressions, 0.2, False),
-    (full_rules, 0.2, False), (full_thresholds, 0.3, False), (full_provenance, 0.3, False),
+    (program, 30, True), (counter, 14, True), (descent, 6, True), (bodies, 8, True), (late_growth, 5, True),
+    (guards_alone, 14, True), (lists, 12, True), (identities, 5, True), (products, 4, True), (reasons, 10, True),
+    (sharing, 3, False), (contexts, 8, True), (starved, 8, False), (refusals, 5, False), (invalid_seeds, 5, False),
+    (nesting, 2, True), (facts_only, 4, True), (keys, 4, True), (full_predicates, 1, False),
+    (full_constants, 0.2, False), (full_expressions, 0.2, False), (full_rules, 0.2, False),
+    (full_thresholds, 0.3, False), (full_provenance, 0.3, False),
 ]
 
 

@@ -56,10 +56,11 @@ class Store:
         self.expressions = []
         self.rules = []
 
-    def text(self, **limits):
-        """The store's part of a job, with other limits if so wished."""
+    def text(self, calls=None, **limits):
+        """The store's part of a job, with other calls or other limits if so wished."""
         limits = {**self.limits, **limits}
-        return lines([[1] + [limits[name] for name in LIMITS]] + self.calls)
+        fresh = [1] + [limits[name] for name in LIMITS]
+        return lines([fresh] + (self.calls if calls is None else calls))
 
     def call(self, *words):
         self.calls.append(list(words))
