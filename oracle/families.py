@@ -459,7 +459,6 @@ def reasons(rng):
     rng.shuffle(body)
     guards = []
     for _ in range(rng.randint(0, 2)):
-        # Disjoint from 0..9 about half of the time: an empty list with its old reason.
         limit = store.constant(rng.choice([-1, 0, 4, 10, 20]))
         guards.append(rng.choice([compare(x, rng.choice(RELATIONS), limit), member(0, limit, limit),
                                   compare(store.of(0), LT, x)]))
@@ -467,6 +466,28 @@ def reasons(rng):
     store.rule(1, body, guards, heads)
     if rng.random() < 0.4:
         store.rule(0, [], [], [[rng.choice([a, b, c]), some_unknown(store, rng)]])
+    store.run()
+    return store
+
+
+def kept_reasons(rng):
+    """Disjoint narrowings one after another leave an empty list that keeps its reason, as long as the
+    slot itself is no operand of a comparison; a head joins it to a list."""
+    store = new_store(rng)
+    source, target = store.predicate(2)
+    store.seed_interval(source, 0, 9)
+    for _ in range(rng.randint(0, 2)):
+        store.seed_value(target, some_key(store, rng))
+    x, five, seven = store.slot(0), store.constant(5), store.constant(7)
+    plus = store.binary(ADD, x, five)
+    body = rng.choice([[positive(0, source)], [assign(0, some_unknown(store, rng))],
+                       [aggregate(0, LEAST), assign(0, store.unknown(1, rng.randint(1, 6)))]])
+    guards = rng.choice([[member(0, five, five), member(0, seven, seven)],
+                         [compare(plus, LT, five), compare(plus, GT, seven)],
+                         [compare(x, LT, five), compare(x, GT, seven)]])
+    store.rule(1, body, guards, [[target, x]])
+    if rng.random() < 0.3:
+        store.rule(1, [positive(0, target)], [], [[rng.choice([source, target]), rng.choice([x, plus])]])
     store.run()
     return store
 
@@ -730,11 +751,11 @@ def full_provenance(rng):
 # (a family, its share, whether a tight limit may be put on it)
 FAMILIES = [
     (program, 30, True), (counter, 14, True), (descent, 6, True), (bodies, 8, True), (late_growth, 5, True),
-    (guards_alone, 14, True), (lists, 12, True), (identities, 5, True), (products, 4, True), (reasons, 10, True),
-    (sharing, 3, False), (contexts, 8, True), (starved, 8, False), (refusals, 5, False), (invalid_seeds, 5, False),
-    (nesting, 2, True), (facts_only, 4, True), (keys, 4, True), (full_predicates, 1, False),
-    (full_constants, 0.2, False), (full_expressions, 0.2, False), (full_rules, 0.2, False),
-    (full_thresholds, 0.3, False), (full_provenance, 0.3, False),
+    (guards_alone, 14, True), (lists, 14, True), (identities, 5, True), (products, 4, True), (reasons, 8, True),
+    (kept_reasons, 4, True), (sharing, 3, False), (contexts, 10, True), (starved, 8, False), (refusals, 5, False),
+    (invalid_seeds, 5, False), (nesting, 2, True), (facts_only, 4, True), (keys, 4, True),
+    (full_predicates, 1, False), (full_constants, 0.2, False), (full_expressions, 0.2, False),
+    (full_rules, 0.2, False), (full_thresholds, 0.3, False), (full_provenance, 0.3, False),
 ]
 
 
