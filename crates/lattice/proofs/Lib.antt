@@ -1,3 +1,1 @@
-pub mod Unions
-pub mod ListLaws
 pub mod LiveLaws

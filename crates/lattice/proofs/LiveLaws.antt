@@ -17,80 +17,16 @@ use Rattle.interval.specs.declared.Constant.{Constant}
 use Rattle.interval.specs.declared.Constant.the-variants.{Number, Name, Large}
 use Rattle.interval.specs.Bound.{bottomOf, hullBound, meetBound, sameBound, allowsOf}
 use Rattle.interval.specs.Bound as bounds
-use Rattle.search.specs.declared.Ordering.{Ordering}
-use Rattle.search.specs.declared.Ordering.the-variants.{Less, Equal, Greater}
-use Rattle.search.specs.Seek.{found, absent, found?, by, middle, seek, compareℕ}
+use Rattle.lists.specs.Lists.{union, push}
+use Rattle.lists.proofs.LiveLaws.{listSize, push-lives, work-lives, retain-all-lives, collect-lives, permits-lives, same-ids-live}
 use Rattle.lattice.specs.declared.Reason.{Reason}
 use Rattle.lattice.specs.Value.{Value, value}
 use Rattle.lattice.specs.Constants.{constantAt}
-use Rattle.lattice.specs.Lists.{union, push, retainAll, takeOne, collect, permitsIn, permits, sameIds}
 use Rattle.lattice.specs.Lattice.{numeric, retained, constant, copiedList, copied, sameLists, same, first, joinedOf, joinLists, join, permitted, keepOne, sift, reduce, source, meetLists, meet, refine}
 
--- the entries of a list, if there is one, and of a value
-abbrev pub listSize : Option (List ℕ) → ℕ
-listSize none = 0
-listSize (some l) = length l
-
+-- the entries of a value's list
 abbrev pub size : Value → ℕ
 size v = listSize (v .values)
-
--- ---- lists
-
-push-lives : (n : ℕ) → Lives n (λ _. n + 1) (push n)
-unfolding push
-push-lives n = live-holding n (live-retain 1)
-
-work-lives : (n amount : ℕ) → Lives n (λ _. n) (holding n (work amount))
-work-lives n amount = live-beside n (live-work amount)
-
-retain-all-lives : (n count : ℕ) → Lives n (λ _. n + count) (retainAll n count)
-unfolding retainAll
-retain-all-lives n zero = live-pure n tt (omega arith)
-retain-all-lives n (suc count) = live-then (push-lives n) (live-as (λ _. omega arith) (retain-all-lives (n + 1) count))
-
-take-lives : (width n : ℕ) → Lives n (λ t. cond t (n + 1) 0) (takeOne width n)
-unfolding takeOne
-take-lives width n =
-    live-then (work-lives n 1)
-    (live-test (leb (min width 16) n) (λ _. live-then (live-release n) (live-pure 0 false refl)) (λ _. live-then (push-lives n) (live-pure (n + 1) true refl)))
-
-collect-lives : (width : ℕ) (kept l : List ℕ) → Lives (length kept) listSize (collect width kept l)
-unfolding collect
-collect-lives width kept [] = live-pure (length kept) (some kept) refl
-collect-lives width kept (i ∷ l) =
-    live-bind (take-lives width (length kept)) (λ t. by-fit t (collect-lives width (kept ++ (i ∷ [])) l))
-  where
-    by-fit : (t : Bool) → Lives (length (kept ++ (i ∷ []))) listSize (collect width (kept ++ (i ∷ [])) l) →
-        Lives (cond t (length kept + 1) 0) listSize (cond t (collect width (kept ++ (i ∷ [])) l) (pure none))
-    by-fit true h = let e : length kept + 1 ≡ length (kept ++ (i ∷ [])) = sym (length-append kept (i ∷ [])) in rw e h
-    by-fit false h = live-pure 0 none refl
-
-seek-lives : (probe : ℕ → Ordering) (turns low high : ℕ) → Lives 0 (λ _. 0) (seek probe turns low high)
-unfolding seek
-seek-lives probe zero low high = live-pure 0 (absent low) refl
-seek-lives probe (suc f) low high =
-    live-test (ltb low high)
-    (λ _. live-then (live-work 1) (turn (probe (middle low high)) (seek-lives probe f (middle low high + 1) high) (seek-lives probe f low (middle low high))))
-    (λ _. live-pure 0 (absent low) refl)
-  where
-    turn : (o : Ordering) → Lives 0 (λ _. 0) (seek probe f (middle low high + 1) high) → Lives 0 (λ _. 0) (seek probe f low (middle low high)) →
-        Lives 0 (λ _. 0) (by o (seek probe f (middle low high + 1) high) (pure (found (middle low high))) (seek probe f low (middle low high)))
-    turn Less r l = r
-    turn Equal r l = live-pure 0 (found (middle low high)) refl
-    turn Greater r l = l
-
-permits-lives : (o : Option (List ℕ)) (id : ℕ) → Lives 0 (λ _. 0) (permits o id)
-unfolding permitsIn
-permits-lives none id = live-pure 0 true refl
-permits-lives (some l) id = live-bind (seek-lives _ (length l) 0 (length l)) (λ p. live-pure 0 (found? p) refl)
-
-same-ids-live : (l r : List ℕ) → Lives 0 (λ _. 0) (sameIds l r)
-unfolding sameIds
-same-ids-live [] r = live-pure 0 true refl
-same-ids-live (a ∷ l) [] = live-pure 0 true refl
-same-ids-live (a ∷ l) (b ∷ r) = live-then (live-work 1) (live-test (eqb a b) (λ _. same-ids-live l r) (λ _. live-pure 0 false refl))
-
--- ---- values
 
 retained-lives : (id : ℕ) (b : Bound) (width : ℕ) → Lives 0 size (retained id b width)
 retained-lives id b width = live-test (leb 1 width) (λ _. live-then (live-retain 1) (live-pure 1 _ refl)) (λ _. live-pure 0 _ refl)

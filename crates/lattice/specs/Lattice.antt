@@ -20,7 +20,7 @@ use Rattle.lattice.specs.declared.Reason.{Reason}
 use Rattle.lattice.specs.declared.Reason.the-variants.{None, Some}
 use Rattle.lattice.specs.Value.{Value, value}
 use Rattle.lattice.specs.Constants.{constantAt}
-use Rattle.lattice.specs.Lists.{union, push, retainAll, collect, permits, sameIds}
+use Rattle.lists.specs.Lists.{union, push, retainAll, collect, permits, sameIds}
 
 abbrev pub bottom : Value
 bottom = value bottomOf (some []) None

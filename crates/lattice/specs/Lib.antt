@@ -1,4 +1,3 @@
 pub mod Value
 pub mod Constants
-pub mod Lists
 pub mod Lattice

@@ -8,7 +8,7 @@ use borrow.Author.Tests.{lt-ltb, le-ltb}
 use lib.Dec.{ltb}
 use Rattle.integers.specs.Lists.{Above, Increasing}
 use Rattle.integers.proofs.ListLaws.{Compared, less, more, same, compared, above-increasing}
-use Rattle.lattice.specs.Lists.{mix, union}
+use Rattle.lists.specs.Lists.{mix, union}
 
 -- ---- membership
 

@@ -18,7 +18,7 @@ use Rattle.search.specs.declared.Ordering.the-variants.{Less, Equal, Greater}
 use Rattle.search.specs.Seek.{Place, found, absent, found?, compareℕ}
 use Rattle.search.proofs.Turns.{is-less, is-greater, less-is, greater-is, equal-is}
 use Rattle.search.proofs.Complete.{Rising, Ends, search-ends}
-use Rattle.lattice.specs.Lists.{push, takeOne, collect, permitsIn, permits}
+use Rattle.lists.specs.Lists.{push, takeOne, collect, permitsIn, permits}
 
 -- ---- permits
 
