@@ -179,9 +179,9 @@ meet-greatest (between a b) (between c d) (between e f) u p q =
     rw (yes-leE (maxE a c) (minE b d) up) (low, high)
 
 -- an interval whose ends descend lies within itself, and not within its meet with itself
-pub descending : (between (at (pos 1)) (at (pos 0)) ⊑ meet (between (at (pos 1)) (at (pos 0))) (between (at (pos 1)) (at (pos 0)))) → ⊥
+pub descending-escapes : (between (at (pos 1)) (at (pos 0)) ⊑ meet (between (at (pos 1)) (at (pos 0))) (between (at (pos 1)) (at (pos 0)))) → ⊥
 unfolding minZ maxZ
-descending p = p
+descending-escapes p = p
 
 -- ---- the ends of a join ascend if those of both operands do; those of a meet do always
 
