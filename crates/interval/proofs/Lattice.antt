@@ -3,10 +3,10 @@
 use native.Mathlib.Omega.{arith}
 use mathlib.Core.Path.{_≡_, refl, ap, ap₂}
 use mathlib.Core.Logic.{_↔_}
-use mathlib.Core.Bool.{Bool, true, false, cond}
+use mathlib.Core.Bool.{true}
 use Prim.Native.Nat.{ℕ}
 use lib.IntN.{pos}
-use Rattle.integers.specs.Order.{up, dn, Le, minZ, maxZ}
+use Rattle.integers.specs.Order.{minZ, maxZ}
 use Rattle.integers.proofs.Tests.{by-cond}
 use Rattle.integers.proofs.OrderLaws.{le-yes, yes-le, le-antisym, min-left, min-right, min-least, max-left, max-right, max-greatest}
 use Rattle.interval.specs.Cousot.{End, −∞, at, +∞, leE, LeE, minE, maxE, Cousot, empty, between, from-to, join, meet, _⊑_, Ascends}
@@ -175,8 +175,8 @@ meet-greatest (between a b) empty (between e f) u p q = absurd q
 meet-greatest (between a b) (between c d) (between e f) u p q =
     let low = maxE-least a c e (p .0) (q .0) in
     let high = minE-greatest b d f (p .1) (q .1) in
-    let up : LeE (maxE a c) (minE b d) = LeE-trans (maxE a c) e (minE b d) low (LeE-trans e f (minE b d) u high) in
-    rw (yes-leE (maxE a c) (minE b d) up) (low, high)
+    let rises : LeE (maxE a c) (minE b d) = LeE-trans (maxE a c) e (minE b d) low (LeE-trans e f (minE b d) u high) in
+    rw (yes-leE (maxE a c) (minE b d) rises) (low, high)
 
 -- an interval whose ends descend lies within itself, and not within its meet with itself
 pub descending-escapes : (between (at (pos 1)) (at (pos 0)) ⊑ meet (between (at (pos 1)) (at (pos 0))) (between (at (pos 1)) (at (pos 0)))) → ⊥

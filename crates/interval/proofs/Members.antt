@@ -3,10 +3,10 @@ use native.Mathlib.Omega.{arith}
 use Prim.Native.Nat.{ℕ}
 use mathlib.Core.Path.{_≡_, refl, sym, ap, _∙_}
 use mathlib.Core.Logic.{_↔_, _⊎_, inl, inr, ⊎-elim}
-use mathlib.Core.Bool.{Bool, true, false, cond, _&&_}
+use mathlib.Core.Bool.{true, _&&_}
 use lib.IntN.{ℤ}
 use lib.Signed.{leZ}
-use Rattle.integers.specs.Order.{up, dn, Le, Between, eqZ, minZ, maxZ, least32, greatest32, Number}
+use Rattle.integers.specs.Order.{Between, eqZ, minZ, maxZ, least32, greatest32, Number}
 use Rattle.integers.proofs.Tests.{by-cond, and-left, and-right}
 use Rattle.integers.proofs.OrderLaws.{le-yes, yes-le, eq-yes, yes-eq, le-antisym}
 use Rattle.interval.specs.declared.Integrality.{Integrality}
@@ -21,7 +21,7 @@ use Rattle.interval.specs.Interval.{cousot, interval, hullOf, meetOf, ch
 use Rattle.interval.specs.Bound.{constantOf, eitherOf, bothOf, mixed, hullBound, meetBound, sameIntegrality, sameBound, allowsOf, HasNumber, HasNames}
 use Rattle.interval.proofs.Lattice.{⊑-trans, join-left, join-right, meet-left, meet-right, meet-greatest}
 
--- ---- nothing is lost in coming back
+-- ---- nothing is lost in coming back from the intervals of Cousot and Cousot
 
 pub interval-cousot : (x : Interval) → interval (cousot x) ≡ x
 interval-cousot Bottom = refl
@@ -142,7 +142,7 @@ allows-name b = mixed-names (b .integrality)
 pub allows-large : (b : Bound) → (allowsOf b Large ≡ true) ↔ HasNames (b .integrality)
 allows-large b = mixed-names (b .integrality)
 
--- `constant`: a number's bound has that number alone, a name's has names and no number
+-- `constant`: a number's bound has that number and nothing else, a name's has names and no number
 pub constant-number : (n m : ℤ) → HasNumber (constantOf (number n)) m ↔ (m ≡ n)
 constant-number n m = (λ h. le-antisym m n (h .1) (h .0), λ e. rw e (omega arith, omega arith))
 
@@ -154,6 +154,12 @@ constant-name = tt
 
 pub constant-large : HasNames (constantOf Large .integrality)
 constant-large = tt
+
+pub name-no-number : (n : ℤ) → HasNumber (constantOf Name) n → ⊥
+name-no-number n h = h
+
+pub large-no-number : (n : ℤ) → HasNumber (constantOf Large) n → ⊥
+large-no-number n h = h
 
 pub constant-allowed : (c : Constant) → allowsOf (constantOf c) c ≡ true
 constant-allowed (number n) = within-ends n n n .1 (omega arith, omega arith)
