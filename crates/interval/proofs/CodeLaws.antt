@@ -1,28 +1,28 @@
 -- What the code's answers are, over plain variables: one law for each way out.
 use native.Mathlib.Omega.{arith}
 use mathlib.Core.Path.{_≡_, refl, sym, ap, ap₂, _∙_}
-use mathlib.Core.Bool.{Bool, true, false, cond, _&&_}
-use borrow.Author.Tests.{eqb-true, eqb-false}
+use mathlib.Core.Bool.{Bool, true, false}
 use lib.Dec.{eqb}
 use lib.IntN.{ℤ}
 use lib.Signed.{ltZ, leZ}
 use mir.Syntax.{w32, w64}
 use mir.Val.{SFits, toZ, ofZ}
 use mir.Facts.{toZ-ofZ}
-use Rattle.integers.specs.Order.{up, dn, Le, Lt, eqZ, minZ, maxZ, least32, greatest32}
+use Rattle.integers.specs.Order.{Le, minZ, maxZ, least32, greatest32}
 use Rattle.integers.proofs.OrderLaws.{lt-yes, lt-no, yes-le, no-le, yes-eq, no-eq, min-left, min-right, max-left, max-right, max-greatest, min-is-right, max-is-left, max-is-right, min-comm, max-comm}
 use Rattle.integers.proofs.Bits.{lt-at, le-at, eq-at, same-bits, number-fits}
 use Rattle.interval.specs.declared.Interval.{Interval}
 use Rattle.interval.specs.declared.Interval.the-variants.{Bottom, Bounded, Unbounded}
 use Rattle.interval.specs.declared.Endpoints.{Endpoints}
-use Rattle.interval.specs.declared.Endpoints.the-variants.{Nothing, Between}
+use Rattle.interval.specs.declared.Endpoints.the-variants.{Between}
 use Rattle.interval.specs.declared.Integrality.{Integrality}
 use Rattle.interval.specs.declared.Integrality.the-variants.{Integer, Mixed}
 use Rattle.interval.specs.declared.Constant.{Constant}
 use Rattle.interval.specs.declared.Constant.the-variants.{Number, Name, Large}
 use Rattle.interval.specs.declared.Bound.{Bound}
-use Rattle.interval.specs.Interval.{cousot, interval, ascendingOf, hullOf, meetOf, checkedOf, endpointsOf, withinEnds, containsOf, sameOf}
+use Rattle.interval.specs.Interval.{ascendingOf, hullOf, meetOf, checkedOf, endpointsOf, containsOf, sameOf}
 use Rattle.interval.specs.Bound.{constantOf, hullBound, meetBound, eitherOf, bothOf, sameBound, allowsOf}
+use Rattle.interval.proofs.Members.{interval-cousot}
 
 -- ---- `ascending`, by its test
 
@@ -95,11 +95,6 @@ module _ {low high : ℤ} (fl : SFits w64 low) (fh : SFits w64 high) where
 
 -- ---- `hull`, by the variants
 
-interval-cousot : (x : Interval) → x ≡ interval (cousot x)
-interval-cousot Bottom = refl
-interval-cousot (Bounded a b) = refl
-interval-cousot Unbounded = refl
-
 all-left : (y : Interval) → Unbounded ≡ hullOf Unbounded y
 unfolding hullOf
 all-left Bottom = refl
@@ -108,7 +103,7 @@ all-left Unbounded = refl
 
 pub hull-nothing : {x y : Interval} → x ≡ Bottom → y ≡ hullOf x y
 unfolding hullOf
-hull-nothing {y = y} p = rw p (interval-cousot y)
+hull-nothing {y = y} p = rw p (sym (interval-cousot y))
 
 pub hull-all : {x : Interval} (y : Interval) → x ≡ Unbounded → Unbounded ≡ hullOf x y
 hull-all y p = rw p (all-left y)
@@ -186,14 +181,14 @@ module _ {x y : Interval} {a b c d : ℤ} (p : x ≡ Bounded a b) (q : y ≡ Bou
 
 -- ---- bounds
 
-pub constant-number : {c : Constant} {n l h : ℤ} → c ≡ Number n → l ≡ n → h ≡ n → record { integrality = Integer; interval = Bounded l h } ≡ constantOf c
-constant-number p el eh = rw (p, el, eh)
+pub number-made : {c : Constant} {n l h : ℤ} → c ≡ Number n → l ≡ n → h ≡ n → record { integrality = Integer; interval = Bounded l h } ≡ constantOf c
+number-made p el eh = rw (p, el, eh)
 
-pub constant-name : {c : Constant} → c ≡ Name → record { integrality = Mixed; interval = Bottom } ≡ constantOf c
-constant-name p = rw p
+pub name-made : {c : Constant} → c ≡ Name → record { integrality = Mixed; interval = Bottom } ≡ constantOf c
+name-made p = rw p
 
-pub constant-large : {c : Constant} → c ≡ Large → record { integrality = Mixed; interval = Bottom } ≡ constantOf c
-constant-large p = rw p
+pub large-made : {c : Constant} → c ≡ Large → record { integrality = Mixed; interval = Bottom } ≡ constantOf c
+large-made p = rw p
 
 module _ (u v : Bound) {i : Integrality} {x : Interval} where
   pub hull-parts : i ≡ eitherOf (u .integrality) (v .integrality) → x ≡ hullOf (u .interval) (v .interval) →

@@ -3,7 +3,7 @@ use borrow.Author.Needs.{needs}
 use mir.Facts.{toZ-ofZ}
 use mir.Syntax.{w32}
 use mir.Val.{SFits}
-use Rattle.interval.proofs.CodeLaws.{constant-number, constant-name, constant-large}
+use Rattle.interval.proofs.CodeLaws.{number-made, name-made, large-made}
 use Rattle.interval.proofs.Bound.constant.Statement.{statement}
 use Rattle.interval.proofs.Bound.constant.Tie as tie
 
@@ -20,13 +20,13 @@ returns : tie.Need-returns
 returns c =
     let v = c .before .constant .given in
     let f : SFits w32 (v .0 .0) = search needs in
-    constant-number (v .1) (toZ-ofZ f) (toZ-ofZ f)
+    number-made (v .1) (toZ-ofZ f) (toZ-ofZ f)
 
 returns-2 : tie.Need-returns-2
-returns-2 c = constant-name (c .enum-told .given .1)
+returns-2 c = name-made (c .enum-told .given .1)
 
 returns-3 : tie.Need-returns-3
-returns-3 c = constant-large (c .enum-told2 .given .1)
+returns-3 c = large-made (c .enum-told2 .given .1)
 
 pub constant-spec : {M : Type 1} → statement M
 constant-spec =
