@@ -2,9 +2,11 @@
 use Prim.Native.Nat.{ℕ, _+_, _-_, _*_, _/_, _%_, _^_, _<_, _≤_, min}
 use native.Mathlib.Omega.{arith}
 use mathlib.Core.Path.{_≡_, refl, sym, ap, _∙_}
+use mathlib.Core.Bool.{Bool, true, false, cond}
 use borrow.Author.Tests.{le-leb, lt-leb}
+use lib.Dec.{leb}
 use Rattle.limits.specs.declared.Resource.{Resource}
-use Rattle.limits.specs.declared.Resource.the-variants.{ValueEntries}
+use Rattle.limits.specs.declared.Resource.the-variants.{Work, ValueEntries}
 use Rattle.limits.specs.declared.Stop.{Stop}
 use Rattle.limits.specs.declared.Statistics.{Statistics}
 use Rattle.limits.specs.declared.Budget.{Budget}
@@ -16,6 +18,8 @@ use Rattle.limits.specs.Charge.{stopOf, chargeOf}
 use Rattle.limits.specs.Records.{limitOf, countOf, withCount, withWidened, withStatistics}
 use Rattle.limits.specs.Metered.{Run, going, stopped}
 use Rattle.limits.specs.Budget.{charge, charged, released, widenedOnce, ran}
+use Rattle.limits.specs.Meter.{meter}
+use Rattle.limits.specs.Meter as inner
 
 module _ (r : Resource) (old amount limit : ℕ) where
   -- the halves of a sum over the limit
@@ -66,3 +70,33 @@ module _ {x : Billed} {y : Run Stop Budget (Unit {0})} (h : ran x ≡ y) where
 
   pub broke : {e : Stop} {b : Budget} → x ≡ Refused e b → stopped e b ≡ y
   broke e = sym (ap ran e) ∙ h
+
+-- ---- and of one count in a meter
+
+-- a refused count comes back as it was
+stays : (r : Resource) (old amount limit : ℕ) {s : Stop} {n : ℕ} → chargeOf r old amount limit ≡ Stopped s n → n ≡ old
+unfolding chargeOf
+stays r old amount limit {s} {n} = go (leb (old + amount) limit)
+  where
+    go : (t : Bool) → cond t (Paid (old + amount)) (Stopped (stopOf r limit (old + amount)) old) ≡ Stopped s n → n ≡ old
+    go true e = let z : _≡_ {A = ℕ} 0 1 = cc in absurd (omega arith)
+    go false e = cc
+
+module _ {x : Charged} (w mw e me amount : ℕ) where
+  module _ (h : x ≡ chargeOf Work w amount mw) where
+    pub work-paid : {n : ℕ} → x ≡ Paid n → going tt (meter n mw e me) ≡ inner.work amount (meter w mw e me)
+    unfolding inner.work
+    work-paid p = rw (← h, p)
+
+    pub work-stopped : {s : Stop} {n : ℕ} → x ≡ Stopped s n → stopped s (meter n mw e me) ≡ inner.work amount (meter w mw e me)
+    unfolding inner.work
+    work-stopped p = rw (stays Work w amount mw (sym h ∙ p), ← h, p)
+
+  module _ (h : x ≡ chargeOf ValueEntries e amount me) where
+    pub retain-paid : {n : ℕ} → x ≡ Paid n → going tt (meter w mw n me) ≡ inner.retain amount (meter w mw e me)
+    unfolding inner.retain
+    retain-paid p = rw (← h, p)
+
+    pub retain-stopped : {s : Stop} {n : ℕ} → x ≡ Stopped s n → stopped s (meter w mw n me) ≡ inner.retain amount (meter w mw e me)
+    unfolding inner.retain
+    retain-stopped p = rw (stays ValueEntries e amount me (sym h ∙ p), ← h, p)

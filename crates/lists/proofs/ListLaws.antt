@@ -68,7 +68,7 @@ permits-is (some l) id s = permits-in l id s (length l) (omega arith)
 abbrev pub room : ℕ → ℕ
 room width = min width 16
 
-take-is : (width n : ℕ) → Ensures (λ t. t ≡ leb (n + 1) (room width)) (takeOne width n)
+pub take-is : (width n : ℕ) → Ensures (λ t. t ≡ leb (n + 1) (room width)) (takeOne width n)
 unfolding takeOne
 take-is width n =
     then (holding n (work 1))

@@ -4,11 +4,30 @@ use mathlib.Core.Bool.{Bool, true, false, cond}
 use mathlib.Core.List.{List, [], _∷_, _++_}
 use mathlib.Core.Option.{Option, some, none}
 use lib.Dec.{ltb, leb, eqb}
-use lib.ListN.{length, getD}
+use lib.ListN.{length, getD, drop}
 use Rattle.limits.specs.declared.Stop.{Stop}
 use Rattle.limits.specs.Metered.{Metered, pure, _>>=_, _>>_}
 use Rattle.limits.specs.Meter.{Meter, work, retain, release, holding}
+use Rattle.lists.specs.declared.Found.{Found}
+use Rattle.lists.specs.declared.Found.the-variants.{Nothing, Id}
+use Rattle.lists.specs.declared.Next.{Next}
+use Rattle.lists.specs.declared.Next.the-variants.{End, Take}
 use Rattle.search.specs.Seek.{found?, compareℕ, seek}
+
+-- what stands at place i, from what is left there, and the next place
+abbrev pub headOf : ℕ → List ℕ → Found
+headOf i [] = Nothing
+headOf i (x ∷ l) = Id x (i + 1)
+
+-- the first id of the union of what is left from the places a and b on, and the places after it
+abbrev pub stepOf : ℕ → ℕ → Found → Found → Next
+stepOf a b Nothing Nothing = End
+stepOf a b Nothing (Id y b′) = Take y a b′
+stepOf a b (Id x a′) Nothing = Take x a′ b
+stepOf a b (Id x a′) (Id y b′) = cond (ltb x y) (Take x a′ b) (cond (ltb y x) (Take y a b′) (Take x a′ b′))
+
+unfoldable pub nextOf : List ℕ → List ℕ → ℕ → ℕ → Next
+nextOf x y a b = stepOf a b (headOf a (drop a x)) (headOf b (drop b y))
 
 -- x, and behind it `rest`, after what comes before x of the other list
 abbrev pub mix : ℕ → (List ℕ → List ℕ) → List ℕ → List ℕ
