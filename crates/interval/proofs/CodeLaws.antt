@@ -22,6 +22,7 @@ use Rattle.interval.specs.declared.Constant.{Constant}
 use Rattle.interval.specs.declared.Constant.the-variants.{Number, Name, Large}
 use Rattle.interval.specs.declared.Bound.{Bound}
 use Rattle.interval.specs.Interval.{cousot, interval, ascendingOf, hullOf, meetOf, checkedOf, endpointsOf, withinEnds, containsOf, sameOf}
+use Rattle.interval.proofs.Members.{interval-cousot}
 use Rattle.interval.specs.Bound.{constantOf, hullBound, meetBound, eitherOf, bothOf, sameBound, allowsOf}
 
 -- ---- `ascending`, by its test
@@ -95,11 +96,6 @@ module _ {low high : ℤ} (fl : SFits w64 low) (fh : SFits w64 high) where
 
 -- ---- `hull`, by the variants
 
-interval-cousot : (x : Interval) → x ≡ interval (cousot x)
-interval-cousot Bottom = refl
-interval-cousot (Bounded a b) = refl
-interval-cousot Unbounded = refl
-
 all-left : (y : Interval) → Unbounded ≡ hullOf Unbounded y
 unfolding hullOf
 all-left Bottom = refl
@@ -108,7 +104,7 @@ all-left Unbounded = refl
 
 pub hull-nothing : {x y : Interval} → x ≡ Bottom → y ≡ hullOf x y
 unfolding hullOf
-hull-nothing {y = y} p = rw p (interval-cousot y)
+hull-nothing {y = y} p = rw p (sym (interval-cousot y))
 
 pub hull-all : {x : Interval} (y : Interval) → x ≡ Unbounded → Unbounded ≡ hullOf x y
 hull-all y p = rw p (all-left y)
