@@ -1,3 +1,4 @@
 pub mod Unions
 pub mod ListLaws
 pub mod LiveLaws
+pub mod Joins
