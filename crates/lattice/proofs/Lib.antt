@@ -2,3 +2,4 @@ pub mod Unions
 pub mod ListLaws
 pub mod LiveLaws
 pub mod Joins
+pub mod Meets
