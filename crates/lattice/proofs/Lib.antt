@@ -3,3 +3,4 @@ pub mod ListLaws
 pub mod LiveLaws
 pub mod Joins
 pub mod Meets
+pub mod Steadiness
