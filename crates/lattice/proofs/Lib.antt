@@ -4,3 +4,4 @@ pub mod LiveLaws
 pub mod Joins
 pub mod Meets
 pub mod Steadiness
+pub mod Members
