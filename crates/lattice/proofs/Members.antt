@@ -7,7 +7,7 @@ use mathlib.Core.Logic.{_↔_, _⊎_, inl, inr, ⊎-elim}
 use mathlib.Core.Bool.{Bool, true, false, cond}
 use mathlib.Core.List.{List, [], _∷_, foldl, List·Memᴰ, List·Memᴰ·head, List·Memᴰ·not-nil, List·Memᴰ·cases-cons}
 use mathlib.Core.Option.{Option, some, none}
-use borrow.Author.Tests.{eqb-true}
+use borrow.Author.Tests.{eqb-true, eq-eqb}
 use lib.Dec.{leb, eqb}
 use lib.IntN.{ℤ}
 use lib.ListN.{length}
@@ -66,6 +66,54 @@ in-held cs o i l m h = hit l bottomOf m
         ⊎-elim
         (λ e. keep l _ (in-hull o b (bounds.constantOf (constantAt cs j)) (inr (subst (λ (n : ℕ). InBound o (bounds.constantOf (constantAt cs n))) e h))))
         (λ k. hit l _ k) (List·Memᴰ·cases-cons m)
+
+numeric-sorted : (i : Interval) → Sorted (numeric i .values)
+numeric-sorted Bottom = tt
+numeric-sorted (Bounded low high) = tt
+numeric-sorted Unbounded = tt
+
+-- ---- copied and same: a copy is the value itself, and same is equality of bounds and of lists
+
+pub copied-is : (v : Value) → Ensures (λ w. w ≡ v) (copied v)
+unfolding copied
+copied-is v = then (work 1) (then (copiedList (v .values)) (by-pure v refl))
+
+same-ids-are : (l r : List ℕ) → length l ≡ length r → Ensures (λ t. (t ≡ true) ↔ (l ≡ r)) (sameIds l r)
+unfolding sameIds
+same-ids-are [] [] n = by-pure true (λ _. refl, λ _. refl)
+same-ids-are [] (b ∷ r) n = absurd (omega arith)
+same-ids-are (a ∷ l) [] n = absurd (omega arith)
+same-ids-are (a ∷ l) (b ∷ r) n =
+    then (work 1)
+    (by-test (eqb a b)
+    (λ e.
+    let f = eqb-true a b e in
+    weaken (λ t g. (λ h. let k = g .0 h in cc, λ (h : (a ∷ l) ≡ (b ∷ r)). g .1 (cc))) (same-ids-are l r (omega arith)))
+    (λ e.
+    by-pure false
+    (λ h. cc, λ (h : (a ∷ l) ≡ (b ∷ r)). let k : a ≡ b = cc in let g : eqb a b ≡ true = eq-eqb a b k in cc)))
+
+same-lists-are : (x y : Option (List ℕ)) → Ensures (λ t. (t ≡ true) ↔ (x ≡ y)) (sameLists x y)
+same-lists-are none none = by-pure true (λ _. refl, λ _. refl)
+same-lists-are none (some r) = by-pure false (λ h. cc, λ h. cc)
+same-lists-are (some l) none = by-pure false (λ h. cc, λ h. cc)
+same-lists-are (some l) (some r) =
+    by-test (eqb (length l) (length r))
+    (λ e. weaken (λ t g. (λ h. ap some (g .0 h), λ (h : some l ≡ some r). g .1 (cc))) (same-ids-are l r (eqb-true (length l) (length r) e)))
+    (λ e.
+    by-pure false
+    (λ h. cc, λ (h : some l ≡ some r). let k : l ≡ r = cc in let g : eqb (length l) (length r) ≡ true = eq-eqb (length l) (length r) (ap length k) in cc))
+
+pub same-is : (u v : Value) → Ensures (λ t. (t ≡ true) ↔ ((u .bound ≡ v .bound) × (u .values ≡ v .values))) (same u v)
+unfolding same
+same-is u v =
+    then (work 1)
+    (by-test (sameBound (u .bound) (v .bound))
+    (λ e. weaken (λ t g. (λ h. (same-bound-is (u .bound) (v .bound) .0 e, g .0 h), λ h. g .1 (h .1))) (same-lists-are (u .values) (v .values)))
+    (λ e. by-pure false (λ h. absurd (never h), λ h. let g = same-bound-is (u .bound) (v .bound) .1 (h .0) in cc)))
+  where
+    never : false ≡ true → ⊥
+    never h = let z : _≡_ {A = ℕ} 0 1 = cc in omega arith
 
 -- ---- in a value
 
@@ -205,3 +253,64 @@ module _ {K : Type 0} (num : K → Option ℤ) (Key : ℕ → K → Type 0) wher
     -- a meet has only what both have
     pub meet-only : Ensures (λ w. In w k → In u k × In v k) (meet cs u v)
     meet-only = from (source (u .values) (v .values)) refl
+
+  -- ---- refine
+
+  -- the numbers of an interval lie in its value
+  in-numeric : (k : K) (i : Interval) (n : ℤ) → num k ≡ some n → cousot i ∋ n → In (numeric i) k
+  in-numeric k Bottom n e h = absurd h
+  in-numeric k (Bounded low high) n e h = record { bound = rw e h; list = tt; }
+  in-numeric k Unbounded n e h = record { bound = rw e h; list = tt; }
+
+  -- and nothing else does
+  numeric-only : (k : K) (i : Interval) → In (numeric i) k → (n : ℤ) × (num k ≡ some n) × (cousot i ∋ n)
+  numeric-only k i h = go (num k) refl i (bounded i h)
+    where
+      bounded : (i : Interval) → In (numeric i) k → InBound (num k) (bounds.numericOf i)
+      bounded Bottom h = h .bound
+      bounded (Bounded low high) h = h .bound
+      bounded Unbounded h = h .bound
+
+      go : (o : Option ℤ) → num k ≡ o → (i : Interval) → InBound o (bounds.numericOf i) → (n : ℤ) × (num k ≡ some n) × (cousot i ∋ n)
+      go none e i h = absurd h
+      go (some n) e i h = (n, e, h)
+
+  -- a narrowed value keeps the numbers of the interval
+  pub refine-in : (cs : List ℕ) → Keyed cs → (v : Value) → Sorted (v .values) → (i : Interval) (k : K) (n : ℤ) → num k ≡ some n → cousot i ∋ n → In v k → Ensures (λ w. In w k) (refine cs v i)
+  unfolding refine
+  refine-in cs t v s i k n e m h = meet-in cs t v (numeric i) s (numeric-sorted i) k h (in-numeric k i n e m)
+
+  -- and has only numbers of the interval that were in the value
+  pub refine-only : (cs : List ℕ) (v : Value) → Sorted (v .values) → (i : Interval) (k : K) → Ensures (λ w. In w k → In v k × ((n : ℤ) × (num k ≡ some n) × (cousot i ∋ n))) (refine cs v i)
+  unfolding refine
+  refine-only cs v s i k = weaken (λ w f h. let p = f h in (p .0, numeric-only k i (p .1))) (meet-only cs v (numeric i) s (numeric-sorted i) k)
+
+  -- ---- constant
+
+  retained-in : (id : ℕ) (b : Bound) (width : ℕ) (k : K) → Key id k → InBound (num k) b → Ensures (λ w. In w k) (retained id b width)
+  retained-in id b width k m h =
+      by-test (leb 1 width) (λ _. then (retain 1) (by-pure _ record { bound = h; list = (id, List·Memᴰ·head refl, m); })) (λ _. by-pure _ record { bound = h; list = tt; })
+
+  -- the value of a retained constant has its key
+  pub constant-in : (cs : List ℕ) → Keyed cs → (id width : ℕ) (k : K) → Key id k → Ensures (λ w. In w k) (constant id (constantAt cs id) width)
+  constant-in cs t id width k m = go (constantAt cs id) (own cs t id k m)
+    where
+      go : (c : Constant) → InBound (num k) (bounds.constantOf c) → Ensures (λ w. In w k) (constant id c width)
+      go (number n) h = retained-in id _ width k m h
+      go Name h = retained-in id _ width k m h
+      go Large h = by-pure _ record { bound = h; list = tt; }
+
+  -- that of one which is not retained has every name
+  pub large-in : (id width : ℕ) (k : K) → num k ≡ none → Ensures (λ w. In w k) (constant id Large width)
+  large-in id width k e = by-pure _ record { bound = rw e tt; list = tt; }
+
+  -- ---- same
+
+  -- equal values have the same members, whatever their reasons are
+  pub same-in : (u v : Value) (k : K) → Ensures (λ t. t ≡ true → In u k ↔ In v k) (same u v)
+  same-in u v k =
+      weaken
+      (λ t f e.
+      let p = f .0 e in
+      (λ h. record { bound = rw (← p .0) (h .bound); list = rw (← p .1) (h .list); }, λ h. record { bound = rw (p .0) (h .bound); list = rw (p .1) (h .list); }))
+      (same-is u v)
