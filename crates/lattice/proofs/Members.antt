@@ -2,19 +2,18 @@
 -- list that has the id of a constant with that key." A join loses nothing, a meet has exactly what both have.
 use Prim.Native.Nat.{ℕ}
 use native.Mathlib.Omega.{arith}
-use mathlib.Core.Path.{_≡_, refl, sym, ap, subst, _∙_}
+use mathlib.Core.Path.{_≡_, refl, subst, _∙_}
 use mathlib.Core.Logic.{_↔_, _⊎_, inl, inr, ⊎-elim}
-use mathlib.Core.Bool.{Bool, true, false, cond}
+use mathlib.Core.Bool.{true}
 use mathlib.Core.List.{List, [], _∷_, foldl, List·Memᴰ, List·Memᴰ·head, List·Memᴰ·not-nil, List·Memᴰ·cases-cons}
 use mathlib.Core.Option.{Option, some, none}
-use borrow.Author.Tests.{eqb-true, eq-eqb}
-use lib.Dec.{leb, eqb}
+use lib.Dec.{leb}
 use lib.IntN.{ℤ}
 use lib.ListN.{length}
 use Rattle.integers.specs.Order.{Number}
 use Rattle.integers.proofs.Tests.{by-cond}
-use Rattle.limits.specs.Meter.{work, retain}
-use Rattle.limits.proofs.Monad.{Ensures, by-pure, by-test, then, weaken, both}
+use Rattle.limits.specs.Meter.{retain}
+use Rattle.limits.proofs.Monad.{Ensures, by-pure, by-test, then, weaken}
 use Rattle.interval.specs.declared.Interval.{Interval}
 use Rattle.interval.specs.declared.Interval.the-variants.{Bottom, Bounded, Unbounded}
 use Rattle.interval.specs.declared.Bound.{Bound}
@@ -25,14 +24,16 @@ use Rattle.interval.specs.Interval.{cousot}
 use Rattle.interval.specs.Bound.{bottomOf, hullBound, meetBound, sameBound, allowsOf, HasNumber, HasNames}
 use Rattle.interval.specs.Bound as bounds
 use Rattle.interval.proofs.Members.{hull-number, hull-names, meet-number, meet-names, allows-number, allows-name, constant-number, same-bound-is}
-use Rattle.lattice.specs.Value.{Value, value}
+use Rattle.lattice.specs.Value.{Value}
 use Rattle.lattice.specs.Constants.{constantAt}
-use Rattle.lattice.specs.Lists.{union, sameIds}
-use Rattle.lattice.specs.Lattice.{numeric, retained, constant, copiedList, copied, sameLists, same, join, source, meet, refine}
+use Rattle.lattice.specs.Lists.{union}
+use Rattle.lattice.specs.Lattice.{numeric, retained, constant, same, join, source, meet, refine}
 use Rattle.lattice.proofs.Unions.{union-in}
 use Rattle.lattice.proofs.ListLaws.{Sorted, room}
 use Rattle.lattice.proofs.Joins.{joinedList, join-is}
-use Rattle.lattice.proofs.Meets.{InList, heldBy, metFrom, FromList, meet-is, meet-from-list}
+use Rattle.lattice.proofs.Copies.{same-is}
+use Rattle.lattice.proofs.Tidiness.{numeric-tidy}
+use Rattle.lattice.proofs.Meets.{InList, heldBy, metFrom, meet-is, meet-from-list}
 
 -- ---- in a bound: what has a number by that number, what has none as a name
 
@@ -66,54 +67,6 @@ in-held cs o i l m h = hit l bottomOf m
         ⊎-elim
         (λ e. keep l _ (in-hull o b (bounds.constantOf (constantAt cs j)) (inr (subst (λ (n : ℕ). InBound o (bounds.constantOf (constantAt cs n))) e h))))
         (λ k. hit l _ k) (List·Memᴰ·cases-cons m)
-
-numeric-sorted : (i : Interval) → Sorted (numeric i .values)
-numeric-sorted Bottom = tt
-numeric-sorted (Bounded low high) = tt
-numeric-sorted Unbounded = tt
-
--- ---- copied and same: a copy is the value itself, and same is equality of bounds and of lists
-
-pub copied-is : (v : Value) → Ensures (λ w. w ≡ v) (copied v)
-unfolding copied
-copied-is v = then (work 1) (then (copiedList (v .values)) (by-pure v refl))
-
-same-ids-are : (l r : List ℕ) → length l ≡ length r → Ensures (λ t. (t ≡ true) ↔ (l ≡ r)) (sameIds l r)
-unfolding sameIds
-same-ids-are [] [] n = by-pure true (λ _. refl, λ _. refl)
-same-ids-are [] (b ∷ r) n = absurd (omega arith)
-same-ids-are (a ∷ l) [] n = absurd (omega arith)
-same-ids-are (a ∷ l) (b ∷ r) n =
-    then (work 1)
-    (by-test (eqb a b)
-    (λ e.
-    let f = eqb-true a b e in
-    weaken (λ t g. (λ h. let k = g .0 h in cc, λ (h : (a ∷ l) ≡ (b ∷ r)). g .1 (cc))) (same-ids-are l r (omega arith)))
-    (λ e.
-    by-pure false
-    (λ h. cc, λ (h : (a ∷ l) ≡ (b ∷ r)). let k : a ≡ b = cc in let g : eqb a b ≡ true = eq-eqb a b k in cc)))
-
-same-lists-are : (x y : Option (List ℕ)) → Ensures (λ t. (t ≡ true) ↔ (x ≡ y)) (sameLists x y)
-same-lists-are none none = by-pure true (λ _. refl, λ _. refl)
-same-lists-are none (some r) = by-pure false (λ h. cc, λ h. cc)
-same-lists-are (some l) none = by-pure false (λ h. cc, λ h. cc)
-same-lists-are (some l) (some r) =
-    by-test (eqb (length l) (length r))
-    (λ e. weaken (λ t g. (λ h. ap some (g .0 h), λ (h : some l ≡ some r). g .1 (cc))) (same-ids-are l r (eqb-true (length l) (length r) e)))
-    (λ e.
-    by-pure false
-    (λ h. cc, λ (h : some l ≡ some r). let k : l ≡ r = cc in let g : eqb (length l) (length r) ≡ true = eq-eqb (length l) (length r) (ap length k) in cc))
-
-pub same-is : (u v : Value) → Ensures (λ t. (t ≡ true) ↔ ((u .bound ≡ v .bound) × (u .values ≡ v .values))) (same u v)
-unfolding same
-same-is u v =
-    then (work 1)
-    (by-test (sameBound (u .bound) (v .bound))
-    (λ e. weaken (λ t g. (λ h. (same-bound-is (u .bound) (v .bound) .0 e, g .0 h), λ h. g .1 (h .1))) (same-lists-are (u .values) (v .values)))
-    (λ e. by-pure false (λ h. absurd (never h), λ h. let g = same-bound-is (u .bound) (v .bound) .1 (h .0) in cc)))
-  where
-    never : false ≡ true → ⊥
-    never h = let z : _≡_ {A = ℕ} 0 1 = cc in omega arith
 
 -- ---- in a value
 
@@ -278,12 +231,12 @@ module _ {K : Type 0} (num : K → Option ℤ) (Key : ℕ → K → Type 0) wher
   -- a narrowed value keeps the numbers of the interval
   pub refine-in : (cs : List ℕ) → Keyed cs → (v : Value) → Sorted (v .values) → (i : Interval) (k : K) (n : ℤ) → num k ≡ some n → cousot i ∋ n → In v k → Ensures (λ w. In w k) (refine cs v i)
   unfolding refine
-  refine-in cs t v s i k n e m h = meet-in cs t v (numeric i) s (numeric-sorted i) k h (in-numeric k i n e m)
+  refine-in cs t v s i k n e m h = meet-in cs t v (numeric i) s (numeric-tidy i .sorted) k h (in-numeric k i n e m)
 
   -- and has only numbers of the interval that were in the value
   pub refine-only : (cs : List ℕ) (v : Value) → Sorted (v .values) → (i : Interval) (k : K) → Ensures (λ w. In w k → In v k × ((n : ℤ) × (num k ≡ some n) × (cousot i ∋ n))) (refine cs v i)
   unfolding refine
-  refine-only cs v s i k = weaken (λ w f h. let p = f h in (p .0, numeric-only k i (p .1))) (meet-only cs v (numeric i) s (numeric-sorted i) k)
+  refine-only cs v s i k = weaken (λ w f h. let p = f h in (p .0, numeric-only k i (p .1))) (meet-only cs v (numeric i) s (numeric-tidy i .sorted) k)
 
   -- ---- constant
 
