@@ -2,7 +2,7 @@
 -- and the union fits the width."
 use Prim.Native.Nat.{ℕ, _≤_}
 use native.Mathlib.Omega.{arith}
-use native.Mathlib.Nat.{min-le-right}
+use native.Mathlib.Nat.{min-le-right, min-eq-left}
 use mathlib.Core.Path.{_≡_, refl}
 use mathlib.Core.Logic.{_↔_}
 use mathlib.Core.Bool.{Bool, true, false, cond}
@@ -11,7 +11,6 @@ use mathlib.Core.Option.{Option, some, none}
 use borrow.Author.Tests.{leb-true, le-leb}
 use lib.Dec.{leb}
 use lib.ListN.{length}
-use Rattle.integers.specs.Lists.{Increasing}
 use Rattle.integers.proofs.Tests.{by-cond}
 use Rattle.limits.specs.Meter.{work}
 use Rattle.limits.proofs.Monad.{Ensures, by-pure, bind, then, weaken}
@@ -25,6 +24,10 @@ use Rattle.lattice.specs.Lists.{union}
 use Rattle.lattice.specs.Lattice.{first, joinedOf, joinLists, join}
 use Rattle.lattice.proofs.Unions.{union-increasing}
 use Rattle.lattice.proofs.ListLaws.{Sorted, room, fitting, collect-is}
+
+-- a store's width is at most 16, and then the room is the width
+pub room-width : (width : ℕ) → width ≤ 16 → room width ≡ width
+room-width width h = min-eq-left h
 
 -- a list, if there is one, has at most 16 ids: those that the array of a value in hand has places for
 abbrev pub Small : Option (List ℕ) → Type 0
@@ -115,6 +118,10 @@ module _ (width : ℕ) (u v : Value) where
 
   pub join-list : Ensures (λ w. w .values ≡ joinedList width (u .values) (v .values)) (join width u v)
   join-list = weaken (λ w e. rw e) (join-is width u v)
+
+  -- 01: "kept exactly if both operands have one and the union fits the width"
+  pub join-kept : Ensures (λ w. (l : List ℕ) → (w .values ≡ some l) ↔ Kept width (u .values) (v .values) l) (join width u v)
+  join-kept = weaken (λ w e l. rw e (kept-is width (u .values) (v .values) l)) join-list
 
   pub join-reason : Ensures (λ w. w .widening ≡ joinedReason width (first (u .widening) (v .widening)) (u .values) (v .values)) (join width u v)
   join-reason = weaken (λ w e. rw e) (join-is width u v)

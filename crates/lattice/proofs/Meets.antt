@@ -10,7 +10,7 @@ use lib.Dec.{leb}
 use lib.ListN.{length}
 use Rattle.integers.specs.Lists.{Increasing, passing}
 use Rattle.integers.proofs.Tests.{by-cond, and-left, and-right}
-use Rattle.integers.proofs.ListLaws.{has, has-is, passing-increasing, passing-length, passing-in}
+use Rattle.integers.proofs.ListLaws.{has-is, passing-increasing, passing-length, passing-in}
 use Rattle.limits.specs.Metered.{pure, _>>_, foldM}
 use Rattle.limits.specs.Meter.{work, holding}
 use Rattle.limits.proofs.Monad.{Ensures, by-pure, by-test, by-through, bind, then, weaken}
@@ -18,7 +18,6 @@ use Rattle.interval.specs.declared.Bound.{Bound}
 use Rattle.interval.specs.Bound.{bottomOf, hullBound, meetBound, sameBound, allowsOf}
 use Rattle.interval.specs.Bound as bounds
 use Rattle.interval.proofs.Members.{same-bound-is}
-use Rattle.lattice.specs.declared.Reason.{Reason}
 use Rattle.lattice.specs.declared.Reason.the-variants.{None}
 use Rattle.lattice.specs.Value.{Value, value}
 use Rattle.lattice.specs.Constants.{constantAt}
@@ -45,9 +44,11 @@ stays cs x y b i = (hasIn x i && hasIn y i) && allowsOf b (constantAt cs i)
 pub stays-is : (cs : List ℕ) (x y : Option (List ℕ)) (b : Bound) (i : ℕ) → (stays cs x y b i ≡ true) ↔ (InList x i × InList y i × (allowsOf b (constantAt cs i) ≡ true))
 stays-is cs x y b i = (
   λ e.
-      let both : (hasIn x i && hasIn y i) ≡ true = and-left (hasIn x i && hasIn y i) (allowsOf b (constantAt cs i)) e in
-      (has-in-is x i .0 (and-left (hasIn x i) (hasIn y i) both), has-in-is y i .0 (and-right (hasIn x i) (hasIn y i) both),
-      and-right (hasIn x i && hasIn y i) (allowsOf b (constantAt cs i)) e),
+      let both : (hasIn x i && hasIn y i) ≡ true = and-left (hasIn x i && hasIn y i) (allowsOf b (constantAt cs i)) e in (
+        has-in-is x i .0 (and-left (hasIn x i) (hasIn y i) both),
+        has-in-is y i .0 (and-right (hasIn x i) (hasIn y i) both),
+        and-right (hasIn x i && hasIn y i) (allowsOf b (constantAt cs i)) e,
+      ),
   λ h. rw (has-in-is x i .1 (h .0), has-in-is y i .1 (h .1), h .2),
 )
 

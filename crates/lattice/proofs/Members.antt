@@ -21,13 +21,14 @@ use Rattle.interval.specs.declared.Constant.{Constant}
 use Rattle.interval.specs.declared.Constant.the-variants.{Number as number, Name, Large}
 use Rattle.interval.specs.Cousot.{_∋_}
 use Rattle.interval.specs.Interval.{cousot}
-use Rattle.interval.specs.Bound.{bottomOf, hullBound, meetBound, sameBound, allowsOf, HasNumber, HasNames}
+use Rattle.interval.specs.Bound.{topOf, bottomOf, numericOf, hullBound, meetBound, sameBound, allowsOf, HasNumber, HasNames}
 use Rattle.interval.specs.Bound as bounds
 use Rattle.interval.proofs.Members.{hull-number, hull-names, meet-number, meet-names, allows-number, allows-name, constant-number, same-bound-is}
+use Rattle.lattice.specs.declared.Reason.{Reason}
 use Rattle.lattice.specs.Value.{Value}
 use Rattle.lattice.specs.Constants.{constantAt}
 use Rattle.lattice.specs.Lists.{union}
-use Rattle.lattice.specs.Lattice.{numeric, retained, constant, same, join, source, meet, refine}
+use Rattle.lattice.specs.Lattice.{bottom, top, numeric, retained, constant, same, join, source, meet, refine}
 use Rattle.lattice.proofs.Unions.{union-in}
 use Rattle.lattice.proofs.ListLaws.{Sorted, room}
 use Rattle.lattice.proofs.Joins.{joinedList, join-is}
@@ -41,15 +42,15 @@ abbrev pub InBound : Option ℤ → Bound → Type 0
 InBound none b = HasNames (b .integrality)
 InBound (some n) b = HasNumber b n
 
-in-hull : (o : Option ℤ) (b c : Bound) → InBound o b ⊎ InBound o c → InBound o (hullBound b c)
+pub in-hull : (o : Option ℤ) (b c : Bound) → InBound o b ⊎ InBound o c → InBound o (hullBound b c)
 in-hull none b c h = hull-names b c .1 h
 in-hull (some n) b c h = hull-number b c n h
 
-in-meet : (o : Option ℤ) (b c : Bound) → InBound o (meetBound b c) ↔ (InBound o b × InBound o c)
+pub in-meet : (o : Option ℤ) (b c : Bound) → InBound o (meetBound b c) ↔ (InBound o b × InBound o c)
 in-meet none b c = meet-names b c
 in-meet (some n) b c = meet-number b c n
 
-in-bottom : (o : Option ℤ) → InBound o bottomOf → ⊥
+pub in-bottom : (o : Option ℤ) → InBound o bottomOf → ⊥
 in-bottom none h = h
 in-bottom (some n) h = h
 
@@ -70,34 +71,66 @@ in-held cs o i l m h = hit l bottomOf m
 
 -- ---- in a value
 
-module _ {K : Type 0} (num : K → Option ℤ) (Key : ℕ → K → Type 0) where
-  -- in a list, if there is one: it has the id of a constant with that key
-  abbrev pub Listed : K → Option (List ℕ) → Type 0
-  Listed k none = Unit {0}
-  Listed k (some l) = (i : ℕ) × List·Memᴰ i l × Key i k
+-- in a list, if there is one: it has the id of a constant with that key
+abbrev pub Listed : {K : Type 0} → (ℕ → K → Type 0) → K → Option (List ℕ) → Type 0
+Listed Key k none = Unit {0}
+Listed Key k (some l) = (i : ℕ) × List·Memᴰ i l × Key i k
 
+-- num k is the number of the key k, if it has one; Key i k says that the constant i has the key k and is retained
+module _ {K : Type 0} (num : K → Option ℤ) (Key : ℕ → K → Type 0) where
   pub record In (v : Value) (k : K) : Type 0 where
     pub bound : InBound (num k) (v .bound)
-    pub list : Listed k (v .values)
+    pub list : Listed Key k (v .values)
 
-  -- the constants of the table are those keys: `Key i k` says that the constant i has the key k and is retained.
-  -- `one`: a retained key has one id, as a meet goes by ids.
+  -- the table has the constants of those keys. A retained key has one id: a meet goes by ids. A number has 32 bits: `allows` cuts to them.
   pub record Keyed (cs : List ℕ) : Type 0 where
     pub numbers : (i : ℕ) (k : K) (n : ℤ) → Key i k → num k ≡ some n → constantAt cs i ≡ number n
     pub names : (i : ℕ) (k : K) → Key i k → num k ≡ none → constantAt cs i ≡ Name
     pub one : (i j : ℕ) (k : K) → Key i k → Key j k → i ≡ j
     pub fits : (k : K) (n : ℤ) → num k ≡ some n → Number n
 
+  -- ---- the values without a list that has ids
+
+  -- Mixed and Unbounded has everything
+  pub top-in : (reason : Reason) (k : K) → In (top reason) k
+  top-in reason k = record { bound = go (num k); list = tt }
+    where
+      go : (o : Option ℤ) → InBound o topOf
+      go none = tt
+      go (some n) = (tt, tt)
+
+  pub bottom-nothing : (k : K) → In bottom k → ⊥
+  bottom-nothing k h = in-bottom (num k) (h .bound)
+
+  -- the value of an interval has its numbers
+  pub numeric-in : (k : K) (i : Interval) (n : ℤ) → num k ≡ some n → cousot i ∋ n → In (numeric i) k
+  numeric-in k Bottom n e h = absurd h
+  numeric-in k (Bounded low high) n e h = record { bound = rw e h; list = tt }
+  numeric-in k Unbounded n e h = record { bound = rw e h; list = tt }
+
+  -- and nothing else
+  pub numeric-only : (k : K) (i : Interval) → In (numeric i) k → (n : ℤ) × (num k ≡ some n) × (cousot i ∋ n)
+  numeric-only k i h = go (num k) refl i (bounded i h)
+    where
+      bounded : (i : Interval) → In (numeric i) k → InBound (num k) (numericOf i)
+      bounded Bottom h = h .bound
+      bounded (Bounded low high) h = h .bound
+      bounded Unbounded h = h .bound
+
+      go : (o : Option ℤ) → num k ≡ o → (i : Interval) → InBound o (numericOf i) → (n : ℤ) × (num k ≡ some n) × (cousot i ∋ n)
+      go none e i h = absurd h
+      go (some n) e i h = (n, e, h)
+
   -- ---- join
 
-  joined-lists : (width : ℕ) (k : K) (x y : Option (List ℕ)) → Listed k x ⊎ Listed k y → Listed k (joinedList width x y)
+  joined-lists : (width : ℕ) (k : K) (x y : Option (List ℕ)) → Listed Key k x ⊎ Listed Key k y → Listed Key k (joinedList width x y)
   joined-lists width k none y h = tt
   joined-lists width k (some x) none h = tt
   joined-lists width k (some x) (some y) h =
-      by-cond (Listed k) (leb (length (union x y)) (room width))
+      by-cond (Listed Key k) (leb (length (union x y)) (room width))
       (λ _.
-      ⊎-elim (λ (a : Listed k (some x)). (a .0, union-in (a .0) x y .1 (inl (a .1)), a .2))
-      (λ (a : Listed k (some y)). (a .0, union-in (a .0) x y .1 (inr (a .1)), a .2)) h)
+      ⊎-elim (λ (a : Listed Key k (some x)). (a .0, union-in (a .0) x y .1 (inl (a .1)), a .2))
+      (λ (a : Listed Key k (some y)). (a .0, union-in (a .0) x y .1 (inr (a .1)), a .2)) h)
       (λ _. tt)
 
   -- a join has what either has
@@ -131,7 +164,7 @@ module _ {K : Type 0} (num : K → Option ℤ) (Key : ℕ → K → Type 0) wher
         go (some n) e = rw (t .numbers i k n m e) (constant-number n n .1 refl)
 
     -- the id of a key that both lists have, where there is a list
-    shared : (k : K) (x y : Option (List ℕ)) (l : List ℕ) → source x y ≡ some l → Listed k x → Listed k y → (i : ℕ) × InList x i × InList y i × Key i k
+    shared : (k : K) (x y : Option (List ℕ)) (l : List ℕ) → source x y ≡ some l → Listed Key k x → Listed Key k y → (i : ℕ) × InList x i × InList y i × Key i k
     shared k none none l e p q = let z : _≡_ {A = ℕ} 0 1 = cc in absurd (omega arith)
     shared k none (some y) l e p q = (q .0, tt, q .1, q .2)
     shared k (some x) none l e p q = (p .0, p .1, tt, p .2)
@@ -147,7 +180,7 @@ module _ {K : Type 0} (num : K → Option ℤ) (Key : ℕ → K → Type 0) wher
           record {
             bound = h;
             list =
-                by-cond (Listed k) (sameBound (meetBound (u .bound) (v .bound)) bottomOf)
+                by-cond (Listed Key k) (sameBound (meetBound (u .bound) (v .bound)) bottomOf)
                 (λ a. absurd (in-bottom (num k) (subst (InBound (num k)) (same-bound-is (meetBound (u .bound) (v .bound)) bottomOf .0 a) h))) (λ _. tt);
           })
           (meet-is cs u v su sv)
@@ -174,13 +207,13 @@ module _ {K : Type 0} (num : K → Option ℤ) (Key : ℕ → K → Type 0) wher
 
   -- and nothing else: this needs no fact of the table
   module _ (cs : List ℕ) (u v : Value) (su : Sorted (u .values)) (sv : Sorted (v .values)) (k : K) where
-    no-lists : (x y : Option (List ℕ)) → source x y ≡ none → Listed k x × Listed k y
+    no-lists : (x y : Option (List ℕ)) → source x y ≡ none → Listed Key k x × Listed Key k y
     no-lists none none e = (tt, tt)
     no-lists none (some y) e = let z : _≡_ {A = ℕ} 0 1 = cc in absurd (omega arith)
     no-lists (some x) none e = let z : _≡_ {A = ℕ} 0 1 = cc in absurd (omega arith)
     no-lists (some x) (some y) e = let z : _≡_ {A = ℕ} 0 1 = cc in absurd (omega arith)
 
-    in-list : (x : Option (List ℕ)) (i : ℕ) → InList x i → Key i k → Listed k x
+    in-list : (x : Option (List ℕ)) (i : ℕ) → InList x i → Key i k → Listed Key k x
     in-list none i m h = tt
     in-list (some x) i m h = (i, m, h)
 
@@ -191,16 +224,16 @@ module _ {K : Type 0} (num : K → Option ℤ) (Key : ℕ → K → Type 0) wher
         let f : w ≡ metFrom cs u v (meetBound (u .bound) (v .bound)) none = e ∙ rw s in
         let b = in-meet (num k) (u .bound) (v .bound) .0 (rw f at (h .bound)) in
         let l = no-lists (u .values) (v .values) s in
-        (record { bound = b .0; list = l .0; }, record { bound = b .1; list = l .1; }))
+        (record { bound = b .0; list = l .0 }, record { bound = b .1; list = l .1 }))
         (meet-is cs u v su sv)
     from (some l) s =
         weaken
         (λ w f h.
         let c = in-meet (num k) (meetBound (u .bound) (v .bound)) (heldBy cs (f .kept)) .0 (rw (f .bound) at (h .bound)) in
         let b = in-meet (num k) (u .bound) (v .bound) .0 (c .0) in
-        let a : Listed k (some (f .kept)) = rw (f .list) at (h .list) in
+        let a : Listed Key k (some (f .kept)) = rw (f .list) at (h .list) in
         let m = f .members (a .0) .0 (a .1) in
-        (record { bound = b .0; list = in-list (u .values) (a .0) (m .0) (a .2); }, record { bound = b .1; list = in-list (v .values) (a .0) (m .1) (a .2); }))
+        (record { bound = b .0; list = in-list (u .values) (a .0) (m .0) (a .2) }, record { bound = b .1; list = in-list (v .values) (a .0) (m .1) (a .2) }))
         (meet-from-list cs u v l su sv s)
 
     -- a meet has only what both have
@@ -209,29 +242,10 @@ module _ {K : Type 0} (num : K → Option ℤ) (Key : ℕ → K → Type 0) wher
 
   -- ---- refine
 
-  -- the numbers of an interval lie in its value
-  in-numeric : (k : K) (i : Interval) (n : ℤ) → num k ≡ some n → cousot i ∋ n → In (numeric i) k
-  in-numeric k Bottom n e h = absurd h
-  in-numeric k (Bounded low high) n e h = record { bound = rw e h; list = tt; }
-  in-numeric k Unbounded n e h = record { bound = rw e h; list = tt; }
-
-  -- and nothing else does
-  numeric-only : (k : K) (i : Interval) → In (numeric i) k → (n : ℤ) × (num k ≡ some n) × (cousot i ∋ n)
-  numeric-only k i h = go (num k) refl i (bounded i h)
-    where
-      bounded : (i : Interval) → In (numeric i) k → InBound (num k) (bounds.numericOf i)
-      bounded Bottom h = h .bound
-      bounded (Bounded low high) h = h .bound
-      bounded Unbounded h = h .bound
-
-      go : (o : Option ℤ) → num k ≡ o → (i : Interval) → InBound o (bounds.numericOf i) → (n : ℤ) × (num k ≡ some n) × (cousot i ∋ n)
-      go none e i h = absurd h
-      go (some n) e i h = (n, e, h)
-
   -- a narrowed value keeps the numbers of the interval
   pub refine-in : (cs : List ℕ) → Keyed cs → (v : Value) → Sorted (v .values) → (i : Interval) (k : K) (n : ℤ) → num k ≡ some n → cousot i ∋ n → In v k → Ensures (λ w. In w k) (refine cs v i)
   unfolding refine
-  refine-in cs t v s i k n e m h = meet-in cs t v (numeric i) s (numeric-tidy i .sorted) k h (in-numeric k i n e m)
+  refine-in cs t v s i k n e m h = meet-in cs t v (numeric i) s (numeric-tidy i .sorted) k h (numeric-in k i n e m)
 
   -- and has only numbers of the interval that were in the value
   pub refine-only : (cs : List ℕ) (v : Value) → Sorted (v .values) → (i : Interval) (k : K) → Ensures (λ w. In w k → In v k × ((n : ℤ) × (num k ≡ some n) × (cousot i ∋ n))) (refine cs v i)
@@ -242,7 +256,7 @@ module _ {K : Type 0} (num : K → Option ℤ) (Key : ℕ → K → Type 0) wher
 
   retained-in : (id : ℕ) (b : Bound) (width : ℕ) (k : K) → Key id k → InBound (num k) b → Ensures (λ w. In w k) (retained id b width)
   retained-in id b width k m h =
-      by-test (leb 1 width) (λ _. then (retain 1) (by-pure _ record { bound = h; list = (id, List·Memᴰ·head refl, m); })) (λ _. by-pure _ record { bound = h; list = tt; })
+      by-test (leb 1 width) (λ _. then (retain 1) (by-pure _ record { bound = h; list = (id, List·Memᴰ·head refl, m) })) (λ _. by-pure _ record { bound = h; list = tt })
 
   -- the value of a retained constant has its key
   pub constant-in : (cs : List ℕ) → Keyed cs → (id width : ℕ) (k : K) → Key id k → Ensures (λ w. In w k) (constant id (constantAt cs id) width)
@@ -251,11 +265,11 @@ module _ {K : Type 0} (num : K → Option ℤ) (Key : ℕ → K → Type 0) wher
       go : (c : Constant) → InBound (num k) (bounds.constantOf c) → Ensures (λ w. In w k) (constant id c width)
       go (number n) h = retained-in id _ width k m h
       go Name h = retained-in id _ width k m h
-      go Large h = by-pure _ record { bound = h; list = tt; }
+      go Large h = by-pure _ record { bound = h; list = tt }
 
   -- that of one which is not retained has every name
   pub large-in : (id width : ℕ) (k : K) → num k ≡ none → Ensures (λ w. In w k) (constant id Large width)
-  large-in id width k e = by-pure _ record { bound = rw e tt; list = tt; }
+  large-in id width k e = by-pure _ record { bound = rw e tt; list = tt }
 
   -- ---- same
 
@@ -265,5 +279,15 @@ module _ {K : Type 0} (num : K → Option ℤ) (Key : ℕ → K → Type 0) wher
       weaken
       (λ t f e.
       let p = f .0 e in
-      (λ h. record { bound = rw (← p .0) (h .bound); list = rw (← p .1) (h .list); }, λ h. record { bound = rw (p .0) (h .bound); list = rw (p .1) (h .list); }))
+      (λ h. record { bound = rw (← p .0) (h .bound); list = rw (← p .1) (h .list) }, λ h. record { bound = rw (p .0) (h .bound); list = rw (p .1) (h .list) }))
       (same-is u v)
+
+-- ---- more keys: what lies in a value still does where more ids have keys
+
+module _ {K : Type 0} (num : K → Option ℤ) (Key Later : ℕ → K → Type 0) where
+  pub in-later : ((i : ℕ) (k : K) → Key i k → Later i k) → (v : Value) (k : K) → In num Key v k → In num Later v k
+  in-later f v k h = record { bound = h .bound; list = go (v .values) (h .list) }
+    where
+      go : (o : Option (List ℕ)) → Listed Key k o → Listed Later k o
+      go none l = tt
+      go (some x) l = (l .0, l .1, f (l .0) k (l .2))

@@ -1,11 +1,10 @@
 -- The value of each operation does not depend on the counts: from any two meters it is the same, where both runs complete.
 use Prim.Native.Nat.{ℕ, min}
-use mathlib.Core.Bool.{Bool, cond, _&&_}
+use mathlib.Core.Bool.{cond, _&&_}
 use mathlib.Core.List.{List, [], _∷_, _++_}
 use mathlib.Core.Option.{Option, some, none}
 use lib.Dec.{leb, eqb}
 use lib.ListN.{length}
-use Rattle.limits.specs.Metered.{pure}
 use Rattle.limits.specs.Meter.{work, retain, release, holding}
 use Rattle.limits.proofs.Monad.{Steady, steady-pure, steady-test, steady-unit, steady-bind, steady-then, steady-fold, steady-through}
 use Rattle.interval.specs.declared.Interval.{Interval}
