@@ -171,6 +171,9 @@ module _ {K : Type 0} (num : K → Option ℤ) (Key : ℕ → K → Type 0) wher
     shared k (some x) (some y) l e p q = (p .0, p .1, subst (λ (j : ℕ). List·Memᴰ j y) (t .one (q .0) (p .0) k (q .2) (p .2)) (q .1), p .2)
 
     module _ (u v : Value) (su : Sorted (u .values)) (sv : Sorted (v .values)) (k : K) where
+      in-met : In u k → In v k → InBound (num k) (meetBound (u .bound) (v .bound))
+      in-met p q = in-meet (num k) (u .bound) (v .bound) .1 (p .bound, q .bound)
+
       meet-to : In u k → In v k → (o : Option (List ℕ)) → source (u .values) (v .values) ≡ o → Ensures (λ w. In w k) (meet cs u v)
       meet-to p q none s =
           weaken
@@ -178,28 +181,22 @@ module _ {K : Type 0} (num : K → Option ℤ) (Key : ℕ → K → Type 0) wher
           let f : w ≡ metFrom cs u v (meetBound (u .bound) (v .bound)) none = e ∙ rw s in
           rw f
           record {
-            bound = h;
+            bound = in-met p q;
             list =
                 by-cond (Listed Key k) (sameBound (meetBound (u .bound) (v .bound)) bottomOf)
-                (λ a. absurd (in-bottom (num k) (subst (InBound (num k)) (same-bound-is (meetBound (u .bound) (v .bound)) bottomOf .0 a) h))) (λ _. tt);
+                (λ a. absurd (in-bottom (num k) (subst (InBound (num k)) (same-bound-is (meetBound (u .bound) (v .bound)) bottomOf .0 a) (in-met p q)))) (λ _. tt);
           })
           (meet-is cs u v su sv)
-        where
-          h : InBound (num k) (meetBound (u .bound) (v .bound))
-          h = in-meet (num k) (u .bound) (v .bound) .1 (p .bound, q .bound)
       meet-to p q (some l) s =
           weaken
           (λ w f.
           let a = shared k (u .values) (v .values) l s (p .list) (q .list) in
-          let m : List·Memᴰ (a .0) (f .kept) = f .members (a .0) .1 (a .1, a .2, allowed (meetBound (u .bound) (v .bound)) (a .0) k (a .3) h) in
+          let m : List·Memᴰ (a .0) (f .kept) = f .members (a .0) .1 (a .1, a .2, allowed (meetBound (u .bound) (v .bound)) (a .0) k (a .3) (in-met p q)) in
           record {
-            bound = rw (f .bound) (in-meet (num k) (meetBound (u .bound) (v .bound)) (heldBy cs (f .kept)) .1 (h, in-held cs (num k) (a .0) (f .kept) m (own (a .0) k (a .3))));
+            bound = rw (f .bound) (in-meet (num k) (meetBound (u .bound) (v .bound)) (heldBy cs (f .kept)) .1 (in-met p q, in-held cs (num k) (a .0) (f .kept) m (own (a .0) k (a .3))));
             list = rw (f .list) (a .0, m, a .3);
           })
           (meet-from-list cs u v l su sv s)
-        where
-          h : InBound (num k) (meetBound (u .bound) (v .bound))
-          h = in-meet (num k) (u .bound) (v .bound) .1 (p .bound, q .bound)
 
       -- a meet has what both have
       pub meet-in : In u k → In v k → Ensures (λ w. In w k) (meet cs u v)
@@ -274,7 +271,7 @@ module _ {K : Type 0} (num : K → Option ℤ) (Key : ℕ → K → Type 0) wher
   -- ---- same
 
   -- equal values have the same members, whatever their reasons are
-  pub same-in : (u v : Value) (k : K) → Ensures (λ t. t ≡ true → In u k ↔ In v k) (same u v)
+  pub same-in : (u v : Value) (k : K) → Ensures (λ t. t ≡ true → (In u k ↔ In v k)) (same u v)
   same-in u v k =
       weaken
       (λ t f e.
