@@ -29,8 +29,8 @@ use Rattle.lists.specs.declared.Found.{Found}
 use Rattle.lists.specs.declared.Found.the-variants.{Nothing, Id}
 use Rattle.lists.specs.declared.Next.{Next}
 use Rattle.lists.specs.declared.Next.the-variants.{End, Take}
-use Rattle.lists.specs.Lists.{headOf, stepOf, nextOf, push, takeOne, permitsIn, sameIds}
-use Rattle.lists.specs.Answers.{Pushes, Answers, told, tried}
+use Rattle.lists.specs.Lists.{headOf, stepOf, nextOf, push, retainAll, takeOne, permitsIn, sameIds}
+use Rattle.lists.specs.Answers.{Pushes, Retains, Answers, told, tried}
 
 -- ---- one entry more, and one step of a merge
 
@@ -42,6 +42,27 @@ module _ (held w e me : ℕ) {x : Charged} (h : x ≡ chargeOf ValueEntries e 1 
   pub pushes-stopped : {s : Stop} {n r : ℕ} → x ≡ Stopped s n → r ≡ n - held → Pushes held w e me (trial.Stopped s w r)
   unfolding push through mapped _>>_ _>>=_ after
   pushes-stopped p q = record { at = λ mw. rw (q, ← retain-stopped w mw e me 1 h p) }
+
+-- the entries of a list begun at e are those that are still to come, with `held` live
+abbrev pub Retaining : ℕ → ℕ → ℕ → ℕ → ℕ → ℕ → Type 0
+Retaining count w e me held live = (mw : ℕ) → retainAll 0 count (meter w mw e me) ≡ retainAll held (count - held) (meter w mw live me)
+
+module _ (count w e me held live : ℕ) (r : Retaining count w e me held live) where
+  pub retained-all : count ≤ held → Retains count w e me (Taken w live)
+  unfolding retainAll _>>_ _>>=_ after pure
+  retained-all h = let z : count - held ≡ 0 = omega arith in record { at = λ mw. rw (r mw, z) }
+
+  module _ (h : held < count) {x : Charged} (k : x ≡ chargeOf ValueEntries live 1 me) where
+    left-over : count - held ≡ suc (count - (held + 1))
+    left-over = omega arith
+
+    pub retained-stopped : {s : Stop} {n q : ℕ} → x ≡ Stopped s n → q ≡ n - held → Retains count w e me (trial.Stopped s w q)
+    unfolding retainAll push through mapped _>>_ _>>=_ after
+    retained-stopped p z = record { at = λ mw. rw (r mw, left-over, z, ← retain-stopped w mw live me 1 k p) }
+
+    pub retained-more : {n : ℕ} → x ≡ Paid n → Retaining count w e me (held + 1) n
+    unfolding retainAll push through mapped _>>_ _>>=_ after
+    retained-more p = λ mw. r mw ∙ ap (λ (i : ℕ). retainAll held i (meter w mw live me)) left-over ∙ rw (← retain-paid w mw live me 1 k p)
 
 module _ (width held w mw e me : ℕ) {x : Charged} (h : x ≡ chargeOf Work w 1 mw) where
   pub take-stopped : {s : Stop} {n r : ℕ} → x ≡ Stopped s n → r ≡ e - held → tried (trial.Stopped s n r) mw me ≡ takeOne width held (meter w mw e me)

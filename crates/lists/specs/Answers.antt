@@ -18,7 +18,7 @@ use Rattle.lists.specs.declared.Kept.{Kept}
 use Rattle.lists.specs.declared.Kept.the-variants.{All, None}
 use Rattle.lists.specs.declared.Kept.the-variants as kept
 use Rattle.lists.specs.declared.Merged.{Merged}
-use Rattle.lists.specs.Lists.{push}
+use Rattle.lists.specs.Lists.{push, retainAll}
 
 -- a verdict charges work alone
 abbrev pub told : Verdict → ℕ → ℕ → ℕ → Run Stop Meter Bool
@@ -38,6 +38,10 @@ tried (trial.Stopped s w e) mw me = stopped s (meter w mw e me)
 -- one entry more, whatever the limit of work is
 pub record Pushes (held work entries maxEntries : ℕ) (r : Trial) : Type 0 where
   pub at : (mw : ℕ) → tried r mw maxEntries ≡ (push held >> pure true) (meter work mw entries maxEntries)
+
+-- all entries of a list
+pub record Retains (count work entries maxEntries : ℕ) (r : Trial) : Type 0 where
+  pub at : (mw : ℕ) → tried r mw maxEntries ≡ (retainAll 0 count >> pure true) (meter work mw entries maxEntries)
 
 abbrev pub mergedAs : Kept → List ℕ → Meter → Run Stop Meter (Option (List ℕ))
 mergedAs All l m = going (some l) m

@@ -9,7 +9,7 @@ ghost use Prim.Native.Nat.{min};
 ghost use lib.ListN.{length, take, drop};
 ghost use Rattle.limits.specs.Meter.{meter};
 ghost use Rattle.lists.specs.Lists.{headOf, nextOf, union, takeOne, collect, permitsIn, sameIds};
-ghost use Rattle.lists.specs.Answers.{Pushes, Answers, tried, merged};
+ghost use Rattle.lists.specs.Answers.{Pushes, Retains, Answers, tried, merged};
 
 // An answer with the work after it.
 pub enum Verdict {
@@ -84,6 +84,26 @@ pub fn retain_one(held: u64, work: u64, entries: u64, max_entries: u64) -> Trial
         Charged::Paid(now) => Trial::Taken(work, now),
         Charged::Stopped(stop, now) => Trial::Stopped(stop, work, limits::release(now, held)),
     }
+}
+
+// All entries of a list, one by one.
+pub fn retain_all(count: u64, work: u64, entries: u64, max_entries: u64) -> Trial
+    ensures { λ r. ⌜ Retains count work entries «max_entries» r ⌝ }
+{
+    let mut held: u64 = 0;
+    let mut live = entries;
+    while held < count {
+        match limits::charge(Resource::ValueEntries, live, 1, max_entries) {
+            Charged::Stopped(stop, now) => {
+                return Trial::Stopped(stop, work, limits::release(now, held));
+            }
+            Charged::Paid(now) => {
+                live = now;
+            }
+        }
+        held = held + 1;
+    }
+    Trial::Taken(work, live)
 }
 
 // One step of a merge: whether one more id fits the width, and the array.
