@@ -69,9 +69,11 @@ integralityOf n = cond (eqb n 0) Integer Mixed
 abbrev pub intervalOf : ℕ → ℤ → ℤ → Interval
 intervalOf n low high = getD (Bottom ∷ ascendingOf low high ∷ Unbounded ∷ []) n Bottom
 
+abbrev pub reasons : List Reason
+reasons = None ∷ Some HeadForm ∷ Some HeadTerm ∷ Some UnboundVariable ∷ Some SymbolSize ∷ Some ValueWidth ∷ Some Dependency ∷ []
+
 abbrev pub reasonOf : ℕ → Reason
-reasonOf n =
-    getD (None ∷ Some HeadForm ∷ Some HeadTerm ∷ Some UnboundVariable ∷ Some SymbolSize ∷ Some ValueWidth ∷ Some Dependency ∷ []) n None
+reasonOf n = getD reasons n None
 
 abbrev pub idOf : ℕ → ℕ
 idOf n = n % 2 ^ 16

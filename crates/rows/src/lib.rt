@@ -197,11 +197,11 @@ fn kept_cell(value: Abstract) -> u32
 }
 
 // The length of the list: none has length 0.
-fn list_len(value: Abstract) -> usize
+fn list_len(value: Abstract) -> u32
     ensures { λ r. ⌜ r ≡ length (listOf (valueOf value .values)) ⌝ }
 {
     if value.kept {
-        return at_most_16(value.len);
+        return at_most_16(value.len) as u32;
     }
     0
 }
@@ -246,7 +246,7 @@ pub fn put_abstract(cells: &mut [u32], row: usize, value: Abstract)
     put_cell(cells, at + 2, low_cell(interval));
     put_cell(cells, at + 3, high_cell(interval));
     put_cell(cells, at + 4, kept_cell(value));
-    put_cell(cells, at + 5, len as u32);
+    put_cell(cells, at + 5, len);
     put_cell(cells, at + 6, reason_cell(reason));
-    put_ids(cells, at, ids, len);
+    put_ids(cells, at, ids, len as usize);
 }
