@@ -5,8 +5,8 @@ use native.Mathlib.Nat.{add-zero}
 use native.Mathlib.Numerals.{towards-suc}
 use mathlib.Core.Path.{_≡_, refl, sym, ap, _∙_}
 use mathlib.Core.Bool.{Bool, true, false, cond, not}
-use mathlib.Core.List.{List, [], _∷_, map}
-use mathlib.Core.Option.{Option, some, none}
+use mathlib.Core.List.{List}
+use mathlib.Core.Option.{some, none}
 use lib.Dec.{eqb}
 use lib.IntN.{ℤ}
 use lib.Signed.{leZ, mag}
@@ -18,10 +18,10 @@ use Rattle.integers.proofs.Bits.{back32}
 use Rattle.integers.proofs.ListLaws.{sets-min, drop-min, take-min, Filled, filled-all, Writing, writing-more, writing-all}
 use Rattle.interval.specs.declared.Integrality.{Integrality}
 use Rattle.interval.specs.declared.Interval.{Interval}
-use Rattle.interval.specs.declared.Interval.the-variants.{Bottom, Bounded, Unbounded}
+use Rattle.interval.specs.declared.Interval.the-variants.{Bottom, Bounded}
 use Rattle.cells.specs.Cells.{ofCell}
 use Rattle.lattice.specs.declared.Reason.{Reason}
-use Rattle.lattice.specs.declared.Reason.the-variants.{None, Some}
+use Rattle.lattice.specs.declared.Reason.the-variants.{None}
 use Rattle.lattice.specs.declared.Abstract.{Abstract}
 use Rattle.lattice.specs.Value.{Value, valueOf, reasonNumber}
 use Rattle.rows.specs.Row.{row, padded, integralityCell, caseCell, lowCell, highCell, keptCell, listOf, encode, integralityOf, intervalOf, reasons, reasonOf, idOf, idsOf, decode, valueAt, put}
@@ -73,6 +73,15 @@ module _ (n : ℕ) (s : List ℕ) {r l : List ℕ} {at j : ℕ} (p : Writing r l
 
 -- ---- a whole row
 
+-- a list that was read, and one that is written, as the value has it
+kept-list : (t : Bool) (n : ℕ) (l : List ℕ) → length l ≡ 16 → cond (not t) (some (take (min n 16) l)) none ≡ cond t none (some (take n l))
+kept-list true n l h = refl
+kept-list false n l h = ap some (ap (λ (m : ℕ). take (min n m) l) (sym h) ∙ take-min l n)
+
+taken : (t : Bool) (n : ℕ) (l : List ℕ) → take (length (listOf (cond t (some (take n l)) none))) l ≡ listOf (cond t (some (take n l)) none)
+taken true n l = ap (λ (m : ℕ). take m l) (length-take n l) ∙ take-min l n
+taken false n l = refl
+
 module _ (cells : List ℕ) (i at : ℕ) (start : at ≡ min (row * i) (length cells)) where
   the-row : padded row (drop at cells) ≡ padded row (drop (row * i) cells)
   the-row = ap (λ (n : ℕ). padded row (drop n cells)) start ∙ ap (padded row) (drop-min cells (row * i))
@@ -82,10 +91,6 @@ module _ (cells : List ℕ) (i at : ℕ) (start : at ≡ min (row * i) (length c
 
   first : getD cells at 0 ≡ getD (padded row (drop at cells)) 0 0
   first = rw add-zero at (cell 0 (omega arith))
-
-  kept-list : (t : Bool) (n : ℕ) (l : List ℕ) → length l ≡ 16 → cond (not t) (some (take (min n 16) l)) none ≡ cond t none (some (take n l))
-  kept-list true n l h = refl
-  kept-list false n l h = ap some (ap (λ (m : ℕ). take (min n m) l) (sym h) ∙ take-min l n)
 
   pub row-read : {a₀ a₁ a₂ a₃ a₄ a₅ a₆ len : ℕ} {g : Integrality} {x : Interval} {w : Reason} {ids : List ℕ} →
       a₀ ≡ getD cells at 0 → a₁ ≡ getD cells (at + 1) 0 → a₂ ≡ getD cells (at + 2) 0 → a₃ ≡ getD cells (at + 3) 0 →
@@ -104,10 +109,6 @@ module _ (cells : List ℕ) (i at : ℕ) (start : at ≡ min (row * i) (length c
       (at + 7) (padded (row - 7) (listOf (v .values))) ≡ sets cells at (encode v)
   unfolding encode
   stores v = simp towards-suc
-
-  taken : (t : Bool) (n : ℕ) (l : List ℕ) → take (length (listOf (cond t (some (take n l)) none))) l ≡ listOf (cond t (some (take n l)) none)
-  taken true n l = ap (λ (m : ℕ). take m l) (length-take n l) ∙ take-min l n
-  taken false n l = refl
 
   pub row-inside : (l : List ℕ) → length l ≡ length cells → at ≤ length l
   row-inside l e = omega arith

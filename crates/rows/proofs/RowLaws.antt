@@ -1,21 +1,20 @@
 -- Theorems about rows: any contents read as a well-formed value, a well-formed value comes back from its row, and a row that is put
 -- is one value set among the values of the table.
-use Prim.Native.Nat.{ℕ, zero, suc, min, _+_, _-_, _*_, _%_, _^_, _≤_, _<_}
+use Prim.Native.Nat.{ℕ, zero, suc, _+_, _-_, _*_, _^_, _≤_, _<_}
 use native.Mathlib.Omega.{arith}
 use native.Mathlib.Decide.{decLt, ℕ-discrete}
-use mathlib.Core.Path.{_≡_, refl, sym, ap, subst, _∙_}
-use mathlib.Core.Bool.{Bool, true, false, cond}
+use mathlib.Core.Path.{_≡_, refl, sym, ap, _∙_}
+use mathlib.Core.Bool.{cond}
 use mathlib.Core.List.{List, [], _∷_, _++_, map}
 use mathlib.Core.Option.{Option, some, none}
 use lib.Dec.{eqb}
 use lib.IntN.{ℤ}
-use lib.Signed.{leZ}
-use lib.ListN.{length, getD, take, drop, set, replicate, length-append, length-take, length-drop, length-set, length-replicate, length-map, getD-replicate, List·getD-eq-default, List·getD-append, List·getD-map}
+use lib.ListN.{length, getD, take, drop, set, replicate, length-append, length-take, length-set, length-replicate, length-map, getD-replicate, List·getD-eq-default, List·getD-append, List·getD-map}
 use lib.Seq.{sets, length-sets, getD-take, getD-drop, getD-append-add, getD-at, ext-getD, getD-set-same, getD-set-other}
-use Rattle.integers.specs.Order.{Le, Number}
+use Rattle.integers.specs.Order.{Number}
 use Rattle.integers.specs.Lists.{All}
 use Rattle.integers.proofs.Tests.{by-cond}
-use Rattle.integers.proofs.OrderLaws.{le-yes, yes-le, by-le}
+use Rattle.integers.proofs.OrderLaws.{yes-le, by-le}
 use Rattle.integers.proofs.ListLaws.{sets-before, sets-after, sets-in, all-getD}
 use Rattle.interval.specs.declared.Integrality.{Integrality}
 use Rattle.interval.specs.declared.Integrality.the-variants.{Integer, Mixed}
@@ -24,13 +23,13 @@ use Rattle.interval.specs.declared.Interval.the-variants.{Bottom, Bounded, Unbo
 use Rattle.interval.specs.Interval.{ascendingOf}
 use Rattle.interval.specs.Interval as intervals
 use Rattle.interval.specs.Cousot as cousot
-use Rattle.cells.specs.Cells.{toCell, ofCell}
+use Rattle.cells.specs.Cells.{ofCell}
 use Rattle.cells.proofs.CellLaws.{of-to, of-number}
 use Rattle.lattice.specs.declared.Widening.the-variants.{HeadForm, HeadTerm, UnboundVariable, SymbolSize, ValueWidth, Dependency}
 use Rattle.lattice.specs.declared.Reason.{Reason}
 use Rattle.lattice.specs.declared.Reason.the-variants.{None, Some}
 use Rattle.lattice.specs.Value.{Value, reasonNumber}
-use Rattle.rows.specs.Row.{row, padded, integralityCell, caseCell, lowCell, highCell, keptCell, listOf, encode, integralityOf, intervalOf, reasonOf, idOf, idsOf, decode, valueAt, put, valuesOf}
+use Rattle.rows.specs.Row.{row, padded, integralityCell, caseCell, lowCell, highCell, keptCell, listOf, encode, integralityOf, intervalOf, reasonOf, idOf, decode, valueAt, put, valuesOf}
 use Rattle.rows.specs.WellFormed.{Proper, Short, WellFormed}
 
 -- ---- the first n of a list, with 0 beyond its end

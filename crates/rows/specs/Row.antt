@@ -1,5 +1,5 @@
 -- A value as a row of `row` cells in a lent table. A cell beyond the table reads as 0 and is not written, and any contents read as a value.
-use Prim.Native.Nat.{ℕ, zero, suc, min, _-_, _*_, _%_, _^_}
+use Prim.Native.Nat.{ℕ, zero, suc, _-_, _*_, _%_, _^_}
 use mathlib.Core.Bool.{cond}
 use mathlib.Core.List.{List, [], _∷_, _++_, map}
 use mathlib.Core.Option.{Option, some, none}

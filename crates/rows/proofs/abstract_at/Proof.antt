@@ -67,8 +67,21 @@ ids-at-requires c κs = search needs
 
 returns : tie.Need-returns
 returns c =
-    let a = c .before .before .before .before .before .before .before .before .before .before .before .before .before .before .args in
-    row-read (now (a .cells)) (a .row) (c .before .before .before .before .before .before .before .before .before .before .before .before .start .result) (c .before .before .before .before .before .before .before .before .before .before .before .before .start .ensures) (c .before .before .before .before .before .before .before .before .before .before .before .cell-at .ensures) (c .before .before .before .before .before .before .before .before .before .cell-at2 .ensures) (c .before .before .before .before .before .before .before .before .cell-at3 .ensures) (c .before .before .before .before .before .before .before .cell-at4 .ensures) (c .before .before .before .before .before .cell-at5 .ensures) (c .before .before .before .before .cell-at6 .ensures) (c .before .before .cell-at7 .ensures) (c .before .before .before .before .before .before .before .before .before .before .integrality-of .ensures) (c .before .before .before .before .before .before .interval-of .ensures) (c .before .before .before .at-most-16 .ensures) (c .before .reason-of .ensures) (c .ids-at .ensures)
+    let k₆ = c .before .before in
+    let k₅ = k₆ .before .before in
+    let k₄ = k₅ .before in
+    let i = k₄ .before in
+    let k₃ = i .before in
+    let k₂ = k₃ .before in
+    let k₁ = k₂ .before in
+    let g = k₁ .before in
+    let k₀ = g .before in
+    let s = k₀ .before in
+    let a = s .before .before .args in
+    row-read (now (a .cells)) (a .row) (s .start .result) (s .start .ensures)
+    (k₀ .cell-at .ensures) (k₁ .cell-at2 .ensures) (k₂ .cell-at3 .ensures) (k₃ .cell-at4 .ensures)
+    (k₄ .cell-at5 .ensures) (k₅ .cell-at6 .ensures) (k₆ .cell-at7 .ensures)
+    (g .integrality-of .ensures) (i .interval-of .ensures) (c .before .before .before .at-most-16 .ensures) (c .before .reason-of .ensures) (c .ids-at .ensures)
 
 pub abstract-at-spec : {M : Type 1} → statement M
 abstract-at-spec =

@@ -93,7 +93,8 @@ put-ids-requires c κs =
     let l = s₁ .before .before .before in
     let s = l .before .before .before in
     let a = s .before .before .args in
-    row-inside (now (a .cells)) (a .row) (s .start .result) (s .start .ensures) (s₇ .put-cell7 .last .0) (s₇ .put-cell7 .kept .0 ∙ s₆ .put-cell6 .kept .0 ∙ s₅ .put-cell5 .kept .0 ∙ s₄ .put-cell4 .kept .0 ∙ s₃ .put-cell3 .kept .0 ∙ s₂ .put-cell2 .kept .0 ∙ s₁ .put-cell .kept .0)
+    row-inside (now (a .cells)) (a .row) (s .start .result) (s .start .ensures) (s₇ .put-cell7 .last .0)
+    (s₇ .put-cell7 .kept .0 ∙ s₆ .put-cell6 .kept .0 ∙ s₅ .put-cell5 .kept .0 ∙ s₄ .put-cell4 .kept .0 ∙ s₃ .put-cell3 .kept .0 ∙ s₂ .put-cell2 .kept .0 ∙ s₁ .put-cell .kept .0)
 
 returns : tie.Need-returns
 returns c =
@@ -107,12 +108,14 @@ returns c =
     let l = s₁ .before .before .before in
     let s = l .before .before .before in
     let a = s .before .before .args in
-    row-put (now (a .cells)) (a .row) (s .start .result) (s .start .ensures) (a .value) (s₁ .before .integrality-cell .ensures) (s₂ .before .case-cell .ensures) (s₃ .before .low-cell .ensures) (s₄ .before .high-cell .ensures) (s₅ .before .kept-cell .ensures) (l .list-len .ensures) (s₇ .before .reason-cell .ensures) (s₁ .put-cell .ensures) (s₂ .put-cell2 .ensures) (s₃ .put-cell3 .ensures) (s₄ .put-cell4 .ensures) (s₅ .put-cell5 .ensures) (s₆ .put-cell6 .ensures) (s₇ .put-cell7 .ensures) (c .before .before .put-ids .ensures)
+    row-put (now (a .cells)) (a .row) (s .start .result) (s .start .ensures) (a .value)
+    (s₁ .before .integrality-cell .ensures) (s₂ .before .case-cell .ensures) (s₃ .before .low-cell .ensures) (s₄ .before .high-cell .ensures)
+    (s₅ .before .kept-cell .ensures) (l .list-len .ensures) (s₇ .before .reason-cell .ensures)
+    (s₁ .put-cell .ensures) (s₂ .put-cell2 .ensures) (s₃ .put-cell3 .ensures) (s₄ .put-cell4 .ensures)
+    (s₅ .put-cell5 .ensures) (s₆ .put-cell6 .ensures) (s₇ .put-cell7 .ensures) (c .before .before .put-ids .ensures)
 
 same-length : tie.Need-same-length
-same-length c =
-    let a = c .before .before .before .before .before .before .before .before .before .before .before .before .before .before .before .before .before .before .before .before .before .before .before .before .before .before .before .before .before .before .before .before .before .before .before .before .before .before .before .before .before .before .before .args in
-    ap length (returns c) ∙ length-put (now (a .cells)) (a .row) (valueOf (a .value))
+same-length c = ap length (returns c) ∙ simp length-put
 
 pub put-abstract-spec : {M : Type 1} → statement M
 put-abstract-spec =
