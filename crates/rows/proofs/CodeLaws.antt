@@ -19,12 +19,13 @@ use Rattle.integers.proofs.ListLaws.{sets-min, drop-min, take-min, Filled, fill
 use Rattle.interval.specs.declared.Integrality.{Integrality}
 use Rattle.interval.specs.declared.Interval.{Interval}
 use Rattle.interval.specs.declared.Interval.the-variants.{Bottom, Bounded}
+use Rattle.interval.specs.declared.Bound.{Bound}
 use Rattle.cells.specs.Cells.{ofCell}
 use Rattle.lattice.specs.declared.Reason.{Reason}
 use Rattle.lattice.specs.declared.Reason.the-variants.{None}
 use Rattle.lattice.specs.declared.Abstract.{Abstract}
 use Rattle.lattice.specs.Value.{Value, valueOf, reasonNumber}
-use Rattle.rows.specs.Row.{row, padded, integralityCell, caseCell, lowCell, highCell, keptCell, listOf, encode, integralityOf, intervalOf, reasons, reasonOf, idOf, idsOf, decode, valueAt, put}
+use Rattle.rows.specs.Row.{row, padded, integralityCell, caseCell, lowCell, highCell, boundCells, keptCell, listOf, encode, integralityOf, intervalOf, reasons, reasonOf, idOf, idsOf, decode, valueAt, put}
 use Rattle.rows.proofs.RowLaws.{length-padded, getD-padded, row-cell}
 
 -- ---- one cell
@@ -45,6 +46,13 @@ module _ {n : ℕ} {a b : ℤ} (one : n ≡ 1) (low high : ℤ) (fl : mag low < 
 
   pub descending : leZ (toZ w32 (ofZ w32 low)) (toZ w32 (ofZ w32 high)) ≡ false → Bottom ≡ intervalOf n a b
   descending t = rw (one, ← el, ← eh, rw (back32 low fl, back32 high fh) at t)
+
+-- ---- the bound
+
+pub bound-put : (d : List ℕ) (at : ℕ) (b : Bound) {a₀ a₁ a₂ a₃ : ℕ} {l₁ l₂ l₃ r : List ℕ} →
+    a₀ ≡ integralityCell (b .integrality) → a₁ ≡ caseCell (b .interval) → a₂ ≡ lowCell (b .interval) → a₃ ≡ highCell (b .interval) →
+    l₁ ≡ set d at a₀ → l₂ ≡ set l₁ (at + 1) a₁ → l₃ ≡ set l₂ (at + 2) a₂ → r ≡ set l₃ (at + 3) a₃ → r ≡ sets d at (boundCells b)
+bound-put d at b e₀ e₁ e₂ e₃ p₁ p₂ p₃ p = p ∙ rw (p₃, p₂, p₁, e₀, e₁, e₂, e₃) (simp towards-suc)
 
 -- ---- the list
 
@@ -102,23 +110,18 @@ module _ (cells : List ℕ) (i at : ℕ) (start : at ≡ min (row * i) (length c
       let l : length (idsOf (padded row (drop at cells))) ≡ 16 = simp (length-map, length-take, length-drop, length-padded) in
       rw (← the-row, eg, ex, en, ew, ei, e₀, first, e₁, cell 1 (omega arith), e₂, cell 2 (omega arith), e₃, cell 3 (omega arith), e₄, cell 4 (omega arith), e₅, cell 5 (omega arith), e₆, cell 6 (omega arith), kept-list (eqb (getD (padded row (drop at cells)) 4 0) 0) (getD (padded row (drop at cells)) 5 0) (idsOf (padded row (drop at cells))) l)
 
-  -- the stores of the seven cells and of the ids, as one
+  -- the stores of the bound, of three cells and of the ids, as one
   stores : (v : Value) →
-      sets (set (set (set (set (set (set (set cells at (integralityCell (v .bound .integrality))) (at + 1) (caseCell (v .bound .interval))) (at + 2) (lowCell (v .bound .interval)))
-      (at + 3) (highCell (v .bound .interval))) (at + 4) (keptCell (v .values))) (at + 5) (length (listOf (v .values)))) (at + 6) (reasonNumber (v .widening)))
+      sets (set (set (set (sets cells at (boundCells (v .bound))) (at + 4) (keptCell (v .values))) (at + 5) (length (listOf (v .values)))) (at + 6) (reasonNumber (v .widening)))
       (at + 7) (padded (row - 7) (listOf (v .values))) ≡ sets cells at (encode v)
   unfolding encode
   stores v = simp towards-suc
 
-  pub row-inside : (l : List ℕ) → length l ≡ length cells → at ≤ length l
-  row-inside l e = omega arith
-
-  pub row-put : (v : Abstract) {a₀ a₁ a₂ a₃ a₄ a₆ len : ℕ} {l₁ l₂ l₃ l₄ l₅ l₆ l₇ r : List ℕ} →
-      a₀ ≡ integralityCell (v .bound .integrality) → a₁ ≡ caseCell (v .bound .interval) → a₂ ≡ lowCell (v .bound .interval) → a₃ ≡ highCell (v .bound .interval) →
-      a₄ ≡ keptCell (valueOf v .values) → len ≡ length (listOf (valueOf v .values)) → a₆ ≡ reasonNumber (v .reason) →
-      l₁ ≡ set cells at a₀ → l₂ ≡ set l₁ (at + 1) a₁ → l₃ ≡ set l₂ (at + 2) a₂ → l₄ ≡ set l₃ (at + 3) a₃ → l₅ ≡ set l₄ (at + 4) a₄ →
-      l₆ ≡ set l₅ (at + 5) len → l₇ ≡ set l₆ (at + 6) a₆ → r ≡ sets l₇ (at + 7) (padded (row - 7) (take len (v .ids))) → r ≡ put cells i (valueOf v)
+  pub row-put : (v : Abstract) {k len w : ℕ} {l₁ l₂ l₃ l₄ r : List ℕ} →
+      k ≡ keptCell (valueOf v .values) → len ≡ length (listOf (valueOf v .values)) → w ≡ reasonNumber (v .reason) →
+      l₁ ≡ sets cells at (boundCells (v .bound)) → l₂ ≡ set l₁ (at + 4) k → l₃ ≡ set l₂ (at + 5) len → l₄ ≡ set l₃ (at + 6) w →
+      r ≡ sets l₄ (at + 7) (padded (row - 7) (take len (v .ids))) → r ≡ put cells i (valueOf v)
   unfolding put
-  row-put v e₀ e₁ e₂ e₃ e₄ en e₆ p₁ p₂ p₃ p₄ p₅ p₆ p₇ p =
-      p ∙ rw (p₇, p₆, p₅, p₄, p₃, p₂, p₁, e₀, e₁, e₂, e₃, e₄, en, e₆, taken (v .kept) (v .len) (v .ids))
+  row-put v ek en ew p₁ p₂ p₃ p₄ p =
+      p ∙ rw (p₄, p₃, p₂, p₁, ek, en, ew, taken (v .kept) (v .len) (v .ids))
       (stores (valueOf v) ∙ ap (λ (n : ℕ). sets cells n (encode (valueOf v))) start ∙ sets-min (encode (valueOf v)) cells (row * i))

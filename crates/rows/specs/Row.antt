@@ -11,6 +11,7 @@ use Rattle.interval.specs.declared.Integrality.{Integrality}
 use Rattle.interval.specs.declared.Integrality.the-variants.{Integer, Mixed}
 use Rattle.interval.specs.declared.Interval.{Interval}
 use Rattle.interval.specs.declared.Interval.the-variants.{Bottom, Bounded, Unbounded}
+use Rattle.interval.specs.declared.Bound.{Bound}
 use Rattle.interval.specs.Interval.{ascendingOf}
 use Rattle.cells.specs.Cells.{toCell, ofCell}
 use Rattle.lattice.specs.declared.Widening.the-variants.{HeadForm, HeadTerm, UnboundVariable, SymbolSize, ValueWidth, Dependency}
@@ -47,6 +48,9 @@ highCell Bottom = 0
 highCell (Bounded low high) = toCell high
 highCell Unbounded = 0
 
+abbrev pub boundCells : Bound → List ℕ
+boundCells b = integralityCell (b .integrality) ∷ caseCell (b .interval) ∷ lowCell (b .interval) ∷ highCell (b .interval) ∷ []
+
 abbrev pub keptCell : Option (List ℕ) → ℕ
 keptCell none = 0
 keptCell (some l) = 1
@@ -57,8 +61,7 @@ listOf (some l) = l
 
 unfoldable pub encode : Value → List ℕ
 encode v =
-    integralityCell (v .bound .integrality) ∷ caseCell (v .bound .interval) ∷ lowCell (v .bound .interval) ∷ highCell (v .bound .interval) ∷
-    keptCell (v .values) ∷ length (listOf (v .values)) ∷ reasonNumber (v .widening) ∷ padded (row - 7) (listOf (v .values))
+    boundCells (v .bound) ++ (keptCell (v .values) ∷ length (listOf (v .values)) ∷ reasonNumber (v .widening) ∷ padded (row - 7) (listOf (v .values)))
 
 -- ---- and back
 
