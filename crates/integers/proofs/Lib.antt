@@ -3,4 +3,4 @@ pub mod OrderLaws
 pub mod Sums
 pub mod Products
 pub mod Bits
-pub mod ListLaws
+pub mod Stores

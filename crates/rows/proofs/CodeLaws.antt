@@ -15,7 +15,7 @@ use lib.Seq.{sets, getD-take, getD-drop}
 use mir.Syntax.{w32}
 use mir.Val.{toZ, ofZ}
 use Rattle.integers.proofs.Bits.{back32}
-use Rattle.integers.proofs.ListLaws.{sets-min, drop-min, take-min, Filled, filled-all, Writing, writing-more, writing-all}
+use Rattle.integers.proofs.Stores.{sets-min, drop-min, take-min, Filled, filled-all, Writing, writing-more, writing-all}
 use Rattle.interval.specs.declared.Integrality.{Integrality}
 use Rattle.interval.specs.declared.Interval.{Interval}
 use Rattle.interval.specs.declared.Interval.the-variants.{Bottom, Bounded}
@@ -108,7 +108,9 @@ module _ (cells : List ℕ) (i at : ℕ) (start : at ≡ min (row * i) (length c
   unfolding valueAt decode
   row-read e₀ e₁ e₂ e₃ e₄ e₅ e₆ eg ex en ew ei =
       let l : length (idsOf (padded row (drop at cells))) ≡ 16 = simp (length-map, length-take, length-drop, length-padded) in
-      rw (← the-row, eg, ex, en, ew, ei, e₀, first, e₁, cell 1 (omega arith), e₂, cell 2 (omega arith), e₃, cell 3 (omega arith), e₄, cell 4 (omega arith), e₅, cell 5 (omega arith), e₆, cell 6 (omega arith), kept-list (eqb (getD (padded row (drop at cells)) 4 0) 0) (getD (padded row (drop at cells)) 5 0) (idsOf (padded row (drop at cells))) l)
+      rw (← the-row, eg, ex, en, ew, ei, e₀, first, e₁, cell 1 (omega arith), e₂, cell 2 (omega arith), e₃, cell 3 (omega arith))
+      (rw (e₄, cell 4 (omega arith), e₅, cell 5 (omega arith), e₆, cell 6 (omega arith))
+      (rw (kept-list (eqb (getD (padded row (drop at cells)) 4 0) 0) (getD (padded row (drop at cells)) 5 0) (idsOf (padded row (drop at cells))) l)))
 
   -- the stores of the bound, of three cells and of the ids, as one
   stores : (v : Value) →

@@ -15,7 +15,7 @@ use Rattle.integers.specs.Order.{Number}
 use Rattle.integers.specs.Lists.{All}
 use Rattle.integers.proofs.Tests.{by-cond}
 use Rattle.integers.proofs.OrderLaws.{yes-le, by-le}
-use Rattle.integers.proofs.ListLaws.{sets-before, sets-after, sets-in, all-getD}
+use Rattle.integers.proofs.Stores.{sets-before, sets-after, sets-in, all-getD}
 use Rattle.interval.specs.declared.Integrality.{Integrality}
 use Rattle.interval.specs.declared.Integrality.the-variants.{Integer, Mixed}
 use Rattle.interval.specs.declared.Interval.{Interval}

@@ -7,7 +7,7 @@ use lib.ListN.{length-set}
 use lib.ListN.{length, getD}
 use borrow.Author.Needs.{needs}
 use denote.Ref.{now}
-use Rattle.integers.proofs.ListLaws.{Filled, filled-none, filled-more}
+use Rattle.integers.proofs.Stores.{Filled, filled-none, filled-more}
 use Rattle.rows.specs.Row.{idOf}
 use Rattle.rows.proofs.CodeLaws.{ids-read}
 use Rattle.rows.proofs.ids_at.Statement.{statement}

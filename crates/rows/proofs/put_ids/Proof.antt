@@ -7,7 +7,7 @@ use lib.ListN.{length-set}
 use lib.Seq.{sets}
 use lib.ListN.{length, take}
 use borrow.Author.Needs.{needs}
-use Rattle.integers.proofs.ListLaws.{Writing, writing-none}
+use Rattle.integers.proofs.Stores.{Writing, writing-none}
 use Rattle.rows.specs.Row.{row, padded}
 use Rattle.rows.proofs.CodeLaws.{id-put, ids-put}
 use Rattle.rows.proofs.put_ids.Statement.{statement}

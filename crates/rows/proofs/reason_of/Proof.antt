@@ -22,7 +22,13 @@ returns-6 : tie.Need-returns-6
 returns-6 c = rw (c .if6 .taken)
 
 returns-7 : tie.Need-returns-7
-returns-7 c = no-reason (c .before .before .before .before .before .before .args .cell) (c .before .before .before .before .before .if1 .left) (c .before .before .before .before .if2 .left) (c .before .before .before .if3 .left) (c .before .before .if4 .left) (c .before .if5 .left) (c .if6 .left)
+returns-7 c =
+    let c₅ = c .before in
+    let c₄ = c₅ .before in
+    let c₃ = c₄ .before in
+    let c₂ = c₃ .before in
+    let c₁ = c₂ .before in
+    no-reason (c₁ .before .args .cell) (c₁ .if1 .left) (c₂ .if2 .left) (c₃ .if3 .left) (c₄ .if4 .left) (c₅ .if5 .left) (c .if6 .left)
 
 pub reason-of-spec : {M : Type 1} → statement M
 reason-of-spec =
