@@ -2,14 +2,17 @@
 use Prim.Native.Nat.{ℕ, suc, _+_, _*_, _≤_, _<_, _^_}
 use native.Mathlib.Omega.{arith}
 use native.Mathlib.Nat.{mul-le-mul}
-use mathlib.Core.Path.{_≡_, refl}
+use mathlib.Core.Path.{_≡_, refl, sym, ap, _∙_}
+use borrow.Author.Tests.{eqb-true, eqb-false}
+use lib.Dec.{eqb}
 use mathlib.Core.Bool.{Bool, true, false, cond}
 use lib.IntN.{ℤ, pos, negsuc, negℤ, _+ℤ_, _-ℤ_, _*ℤ_}
 use lib.Signed.{ltZ, leZ, mag}
 use mir.Syntax.{Width, w32, w64}
 use mir.Val.{SFits, toZ, ofZ}
 use mir.Facts.{toZ-ofZ, sfits-widen}
-use Rattle.integers.specs.Order.{up, dn, Le, Lt, minZ, maxZ, least32, greatest32, Number}
+use Rattle.integers.specs.Order.{up, dn, Le, Lt, eqZ, minZ, maxZ, least32, greatest32, Number}
+use Rattle.integers.proofs.OrderLaws.{yes-eq, no-eq}
 use Rattle.integers.proofs.Sums.{one-zero, add-split, sub-split-ℤ, neg-up, neg-dn}
 
 -- ---- what a test of two signed locals says of the numbers
@@ -24,6 +27,18 @@ module _ {w : Width} {a b : ℤ} (fa : SFits w a) (fb : SFits w b) where
   -- what a callee says of two signed arguments
   pub read₂ : {X : Type 0} {r : X} (f : ℤ → ℤ → X) → r ≡ f (toZ w (ofZ w a)) (toZ w (ofZ w b)) → r ≡ f a b
   read₂ f e = rw (toZ-ofZ fa, toZ-ofZ fb) at e
+
+-- equal bits are equal numbers
+module _ {w : Width} {a b : ℤ} (fa : SFits w a) (fb : SFits w b) where
+  pub same-bits : ofZ w a ≡ ofZ w b → a ≡ b
+  same-bits e = sym (toZ-ofZ fa) ∙ ap (toZ w) e ∙ toZ-ofZ fb
+
+  pub eq-at : eqb (ofZ w a) (ofZ w b) ≡ eqZ a b
+  eq-at = go (eqb (ofZ w a) (ofZ w b)) refl
+    where
+      go : (t : Bool) → eqb (ofZ w a) (ofZ w b) ≡ t → t ≡ eqZ a b
+      go true e = sym (yes-eq a b (same-bits (eqb-true (ofZ w a) (ofZ w b) e)))
+      go false e = sym (no-eq a b (λ q. eqb-false (ofZ w a) (ofZ w b) e (ap (ofZ w) q)))
 
 -- the least and the greatest of two signed locals, by a test
 module _ {w : Width} {a b : ℤ} (fa : SFits w a) (fb : SFits w b) where

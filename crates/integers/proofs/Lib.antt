@@ -3,4 +3,5 @@ pub mod OrderLaws
 pub mod Sums
 pub mod Products
 pub mod Bits
+pub mod ListLaws
 pub mod Stores

@@ -139,6 +139,28 @@ pub max-greatest : (a b c : ℤ) → Le a c → Le b c → Le (maxZ a b) c
 unfolding maxZ
 max-greatest a b c p q = by-lt (λ t. Le (cond t b a) c) a b (λ h. omega arith) (λ h. omega arith)
 
+-- which of the two it is, by their order
+pub min-is-left : (a b : ℤ) → Le a b → minZ a b ≡ a
+min-is-left a b h = le-antisym (minZ a b) a (min-left a b) (min-least a b a (omega arith) h)
+
+pub min-is-right : (a b : ℤ) → Le b a → minZ a b ≡ b
+min-is-right a b h = le-antisym (minZ a b) b (min-right a b) (min-least a b b h (omega arith))
+
+pub max-is-left : (a b : ℤ) → Le b a → maxZ a b ≡ a
+max-is-left a b h = le-antisym (maxZ a b) a (max-greatest a b a (omega arith) h) (max-left a b)
+
+pub max-is-right : (a b : ℤ) → Le a b → maxZ a b ≡ b
+max-is-right a b h = le-antisym (maxZ a b) b (max-greatest a b b h (omega arith)) (max-right a b)
+
+-- the order of the two does not matter
+pub min-comm : (a b : ℤ) → minZ a b ≡ minZ b a
+min-comm a b =
+    le-antisym (minZ a b) (minZ b a) (min-least b a (minZ a b) (min-right a b) (min-left a b)) (min-least a b (minZ b a) (min-right b a) (min-left b a))
+
+pub max-comm : (a b : ℤ) → maxZ a b ≡ maxZ b a
+max-comm a b =
+    le-antisym (maxZ a b) (maxZ b a) (max-greatest a b (maxZ b a) (max-right b a) (max-left b a)) (max-greatest b a (maxZ a b) (max-right a b) (max-left a b))
+
 -- either of the two is what it is, so a fact of both is one of it
 pub min-either {ℓ} : (P : ℤ → Type ℓ) (a b : ℤ) → P a → P b → P (minZ a b)
 unfolding minZ

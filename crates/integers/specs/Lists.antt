@@ -1,6 +1,21 @@
--- Lists: what holds of every element.
+-- Lists: what holds of every element, strictly increasing lists of natural numbers, and the elements that pass a test.
+use Prim.Native.Nat.{ℕ, _<_}
+use mathlib.Core.Bool.{Bool, cond}
 use mathlib.Core.List.{List, [], _∷_}
 
 abbrev pub All : {A : Type 0} → (A → Type 0) → List A → Type 0
 All P [] = Unit {0}
 All P (a ∷ l) = P a × All P l
+
+-- strictly increasing from z on
+abbrev pub Above : ℕ → List ℕ → Type 0
+Above z [] = Unit {0}
+Above z (x ∷ l) = (z < x) × Above x l
+
+abbrev pub Increasing : List ℕ → Type 0
+Increasing [] = Unit {0}
+Increasing (x ∷ l) = Above x l
+
+abbrev pub passing : {A : Type 0} → (A → Bool) → List A → List A
+passing p [] = []
+passing p (a ∷ l) = cond (p a) (a ∷ passing p l) (passing p l)

@@ -87,7 +87,7 @@ impl Interval {
             Interval::Unbounded => Interval::Unbounded,
             Interval::Bounded { low: a, high: b } => match other {
                 Interval::Bottom => self,
-                Interval::Unbounded => Interval::Unbounded,
+                Interval::Unbounded => Interval::Unbounded, // not the interval with both ends
                 Interval::Bounded { low: c, high: d } => Interval::Bounded {
                     low: least(a, c),
                     high: greatest(b, d),

@@ -1,1 +1,3 @@
 pub mod Value
+pub mod Constants
+pub mod Lattice

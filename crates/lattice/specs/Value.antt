@@ -16,6 +16,9 @@ pub record Value : Type 0 where
   pub values : Option (List ℕ)
   pub widening : Reason
 
+abbrev pub value : Bound → Option (List ℕ) → Reason → Value
+value b l r = record { bound = b; values = l; widening = r }
+
 -- 01: "reason (0 none, else 1 to 6 in the order of `Widening`)"
 abbrev pub wideningNumber : Widening → ℕ
 wideningNumber HeadForm = 1
@@ -31,4 +34,4 @@ reasonNumber (Some w) = wideningNumber w
 
 -- what a value in hand stands for: 01, "a fixed array of 16 ids with a length and a kept mark"
 abbrev pub valueOf : Abstract → Value
-valueOf v = record { bound = v .bound; values = cond (v .kept) (some (take (v .len) (v .ids))) none; widening = v .reason }
+valueOf v = value (v .bound) (cond (v .kept) (some (take (v .len) (v .ids))) none) (v .reason)

@@ -1,3 +1,4 @@
 pub mod CodeLaws
 pub mod Monad
+pub mod Live
 pub mod ChargeLaws

@@ -1,0 +1,3 @@
+pub mod Unions
+pub mod ListLaws
+pub mod LiveLaws
