@@ -68,7 +68,7 @@ encode v =
 abbrev pub integralityOf : ℕ → Integrality
 integralityOf n = cond (eqb n 0) Integer Mixed
 
--- by the case's number; a descending pair reads as Bottom, as any other number does
+-- by the case's number. Any other number reads as Bottom, and so does a descending pair
 abbrev pub intervalOf : ℕ → ℤ → ℤ → Interval
 intervalOf n low high = getD (Bottom ∷ ascendingOf low high ∷ Unbounded ∷ []) n Bottom
 

@@ -1,10 +1,8 @@
 -- `rows::ids_at` meets its contract.
 use Prim.Native.Nat.{_+_, _-_, _≤_}
 use native.Mathlib.Omega.{arith}
-use mathlib.Core.Path.{ap}
-use mathlib.Core.Path.{_≡_}
-use lib.ListN.{length-set}
-use lib.ListN.{length, getD}
+use mathlib.Core.Path.{_≡_, ap}
+use lib.ListN.{length, getD, length-set}
 use borrow.Author.Needs.{needs}
 use denote.Ref.{now}
 use Rattle.integers.proofs.Stores.{Filled, filled-none, filled-more}
@@ -52,7 +50,10 @@ loop-again c =
     (omega arith, (simp length-set (v .1 .0), filled-more (v .1 .1) (omega arith) (ap idOf (c .cell-at .ensures))))
 
 returns : tie.Need-returns Inv-loop μ-loop
-returns c = ids-read (now (c .before .before .before .args .cells)) (c .before .before .before .args .at) (c .before .loop .inv .1 .1) (c .before .loop .inv .1 .0) (c .loop-test .left)
+returns c =
+    let a = c .before .before .before .args in
+    let v = c .before .loop .inv in
+    ids-read (now (a .cells)) (a .at) (v .1 .1) (v .1 .0) (c .loop-test .left)
 
 pub ids-at-spec : {M : Type 1} → statement M
 ids-at-spec =

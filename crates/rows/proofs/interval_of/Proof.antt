@@ -18,10 +18,16 @@ of-cell-requires-2 : tie.Need-of-cell-requires-2
 of-cell-requires-2 c κs = search needs
 
 returns-3 : tie.Need-returns-3
-returns-3 c = ascending (c .before .before .before .if2 .left) _ _ (c .before .before .of-cell .ok) (c .before .of-cell2 .ok) (c .before .before .of-cell .ensures) (c .before .of-cell2 .ensures) (c .if3 .taken)
+returns-3 c =
+    let h = c .before in
+    let l = h .before in
+    ascending (l .before .if2 .left) _ _ (l .of-cell .ok) (h .of-cell2 .ok) (l .of-cell .ensures) (h .of-cell2 .ensures) (c .if3 .taken)
 
 returns-4 : tie.Need-returns-4
-returns-4 c = descending (c .before .before .before .if2 .left) _ _ (c .before .before .of-cell .ok) (c .before .of-cell2 .ok) (c .before .before .of-cell .ensures) (c .before .of-cell2 .ensures) (c .if3 .left)
+returns-4 c =
+    let h = c .before in
+    let l = h .before in
+    descending (l .before .if2 .left) _ _ (l .of-cell .ok) (h .of-cell2 .ok) (l .of-cell .ensures) (h .of-cell2 .ensures) (c .if3 .left)
 
 pub interval-of-spec : {M : Type 1} → statement M
 interval-of-spec =

@@ -1,11 +1,9 @@
 -- `rows::put_ids` meets its contract.
 use Prim.Native.Nat.{_+_, _-_, _≤_}
 use native.Mathlib.Omega.{arith}
-use mathlib.Core.Path.{ap, _∙_}
-use mathlib.Core.Path.{_≡_, refl}
-use lib.ListN.{length-set}
+use mathlib.Core.Path.{_≡_, refl, ap, _∙_}
+use lib.ListN.{length, take, length-set}
 use lib.Seq.{sets}
-use lib.ListN.{length, take}
 use borrow.Author.Needs.{needs}
 use Rattle.integers.proofs.Stores.{Writing, writing-none}
 use Rattle.rows.specs.Row.{row, padded}
@@ -14,7 +12,9 @@ use Rattle.rows.proofs.put_ids.Statement.{statement}
 use Rattle.rows.proofs.put_ids.Tie as tie
 
 abbrev Inv-loop : tie.InvT-loop
-Inv-loop cells₀ at ids len j₀ cells j = (j ≤ row - 7) × ((length cells ≡ length cells₀) × Writing (sets cells₀ (at + 7) (padded (row - 7) (take len ids))) cells (at + 7) (padded (row - 7) (take len ids)) j)
+Inv-loop cells₀ at ids len j₀ cells j =
+    (j ≤ row - 7) × ((length cells ≡ length cells₀) ×
+    Writing (sets cells₀ (at + 7) (padded (row - 7) (take len ids))) cells (at + 7) (padded (row - 7) (take len ids)) j)
 
 abbrev μ-loop : tie.MeasureT-loop
 μ-loop cells₀ at ids len j₀ cells j = row - 7 - j
@@ -46,7 +46,8 @@ loop-less c = search needs
 loop-again : tie.Need-loop-again Inv-loop μ-loop
 loop-again c =
     let v = c .before .before .before .before .before .before .loop .inv in
-    (omega arith, (ap length (c .before .before .put-cell .ensures) ∙ simp length-set (v .1 .0), id-put (row - 7) _ (v .1 .1) (omega arith) (c .before .before .before .id-at .ensures) (c .before .before .put-cell .ensures)))
+    let p = c .before .before .put-cell .ensures in
+    (omega arith, (ap length p ∙ simp length-set (v .1 .0), id-put (row - 7) _ (v .1 .1) (omega arith) (c .before .before .before .id-at .ensures) p))
 
 same-length : tie.Need-same-length Inv-loop μ-loop
 same-length c = c .before .loop .inv .1 .0
