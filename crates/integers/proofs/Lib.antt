@@ -4,3 +4,4 @@ pub mod Sums
 pub mod Products
 pub mod Bits
 pub mod ListLaws
+pub mod Stores

@@ -1,5 +1,5 @@
 -- A value as a row of `row` cells in a lent table. A cell beyond the table reads as 0 and is not written, and any contents read as a value.
-use Prim.Native.Nat.{ℕ, zero, suc, min, _-_, _*_, _%_, _^_}
+use Prim.Native.Nat.{ℕ, zero, suc, _-_, _*_, _%_, _^_}
 use mathlib.Core.Bool.{cond}
 use mathlib.Core.List.{List, [], _∷_, _++_, map}
 use mathlib.Core.Option.{Option, some, none}
@@ -11,6 +11,7 @@ use Rattle.interval.specs.declared.Integrality.{Integrality}
 use Rattle.interval.specs.declared.Integrality.the-variants.{Integer, Mixed}
 use Rattle.interval.specs.declared.Interval.{Interval}
 use Rattle.interval.specs.declared.Interval.the-variants.{Bottom, Bounded, Unbounded}
+use Rattle.interval.specs.declared.Bound.{Bound}
 use Rattle.interval.specs.Interval.{ascendingOf}
 use Rattle.cells.specs.Cells.{toCell, ofCell}
 use Rattle.lattice.specs.declared.Widening.the-variants.{HeadForm, HeadTerm, UnboundVariable, SymbolSize, ValueWidth, Dependency}
@@ -47,6 +48,9 @@ highCell Bottom = 0
 highCell (Bounded low high) = toCell high
 highCell Unbounded = 0
 
+abbrev pub boundCells : Bound → List ℕ
+boundCells b = integralityCell (b .integrality) ∷ caseCell (b .interval) ∷ lowCell (b .interval) ∷ highCell (b .interval) ∷ []
+
 abbrev pub keptCell : Option (List ℕ) → ℕ
 keptCell none = 0
 keptCell (some l) = 1
@@ -57,21 +61,22 @@ listOf (some l) = l
 
 unfoldable pub encode : Value → List ℕ
 encode v =
-    integralityCell (v .bound .integrality) ∷ caseCell (v .bound .interval) ∷ lowCell (v .bound .interval) ∷ highCell (v .bound .interval) ∷
-    keptCell (v .values) ∷ length (listOf (v .values)) ∷ reasonNumber (v .widening) ∷ padded (row - 7) (listOf (v .values))
+    boundCells (v .bound) ++ (keptCell (v .values) ∷ length (listOf (v .values)) ∷ reasonNumber (v .widening) ∷ padded (row - 7) (listOf (v .values)))
 
 -- ---- and back
 
 abbrev pub integralityOf : ℕ → Integrality
 integralityOf n = cond (eqb n 0) Integer Mixed
 
--- by the case's number; a descending pair reads as Bottom, as any other number does
+-- by the case's number. Any other number reads as Bottom, and so does a descending pair
 abbrev pub intervalOf : ℕ → ℤ → ℤ → Interval
 intervalOf n low high = getD (Bottom ∷ ascendingOf low high ∷ Unbounded ∷ []) n Bottom
 
+abbrev pub reasons : List Reason
+reasons = None ∷ Some HeadForm ∷ Some HeadTerm ∷ Some UnboundVariable ∷ Some SymbolSize ∷ Some ValueWidth ∷ Some Dependency ∷ []
+
 abbrev pub reasonOf : ℕ → Reason
-reasonOf n =
-    getD (None ∷ Some HeadForm ∷ Some HeadTerm ∷ Some UnboundVariable ∷ Some SymbolSize ∷ Some ValueWidth ∷ Some Dependency ∷ []) n None
+reasonOf n = getD reasons n None
 
 abbrev pub idOf : ℕ → ℕ
 idOf n = n % 2 ^ 16

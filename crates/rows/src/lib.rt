@@ -6,7 +6,7 @@ ghost use lib.ListN.{length, getD, take, drop};
 ghost use lib.Seq.{sets};
 ghost use Rattle.cells.specs.Cells.{ofCell};
 ghost use Rattle.lattice.specs.Value.{valueOf, reasonNumber};
-ghost use Rattle.rows.specs.Row.{row, padded, integralityCell, caseCell, lowCell, highCell, keptCell, listOf, integralityOf, intervalOf, reasonOf, idsOf, valueAt, put};
+ghost use Rattle.rows.specs.Row.{row, padded, integralityCell, caseCell, lowCell, highCell, boundCells, keptCell, listOf, integralityOf, intervalOf, reasonOf, idsOf, valueAt, put};
 use cells::cell_at;
 use cells::of_cell;
 use cells::put_cell;
@@ -171,6 +171,19 @@ fn high_cell(interval: Interval) -> u32
     }
 }
 
+// The bound, into the row that begins at `at`.
+fn put_bound(cells: &mut [u32], at: usize, bound: Bound)
+    requires { ⌜ at ≤ length (now cells) ⌝ }
+    ensures { λ _. ⌜ now (cells .exit) ≡ sets (now (cells .entry)) at (boundCells bound) ⌝ }
+{
+    let integrality = bound.integrality;
+    let interval = bound.interval;
+    put_cell(cells, at, integrality_cell(integrality));
+    put_cell(cells, at + 1, case_cell(interval));
+    put_cell(cells, at + 2, low_cell(interval));
+    put_cell(cells, at + 3, high_cell(interval));
+}
+
 fn reason_cell(reason: Reason) -> u32
     ensures { λ r. ⌜ r ≡ reasonNumber reason ⌝ }
 {
@@ -197,11 +210,11 @@ fn kept_cell(value: Abstract) -> u32
 }
 
 // The length of the list: none has length 0.
-fn list_len(value: Abstract) -> usize
+fn list_len(value: Abstract) -> u32
     ensures { λ r. ⌜ r ≡ length (listOf (valueOf value .values)) ⌝ }
 {
     if value.kept {
-        return at_most_16(value.len);
+        return at_most_16(value.len) as u32;
     }
     0
 }
@@ -236,17 +249,12 @@ pub fn put_abstract(cells: &mut [u32], row: usize, value: Abstract)
 {
     let at = start(cells.len(), row);
     let bound = value.bound;
-    let integrality = bound.integrality;
-    let interval = bound.interval;
     let reason = value.reason;
     let ids = value.ids;
     let len = list_len(value);
-    put_cell(cells, at, integrality_cell(integrality));
-    put_cell(cells, at + 1, case_cell(interval));
-    put_cell(cells, at + 2, low_cell(interval));
-    put_cell(cells, at + 3, high_cell(interval));
+    put_bound(cells, at, bound);
     put_cell(cells, at + 4, kept_cell(value));
-    put_cell(cells, at + 5, len as u32);
+    put_cell(cells, at + 5, len);
     put_cell(cells, at + 6, reason_cell(reason));
-    put_ids(cells, at, ids, len);
+    put_ids(cells, at, ids, len as usize);
 }

@@ -1,0 +1,98 @@
+-- Lists: what a run of stores leaves, a list filled or written a cell at a time, parts of lists.
+use Prim.Native.Nat.{ℕ, zero, suc, min, _+_, _-_, _≤_, _<_}
+use native.Mathlib.Omega.{arith}
+use native.Mathlib.Nat.{add-zero}
+use native.Mathlib.Decide.{decLt, decLe}
+use mathlib.Core.Path.{_≡_, refl, sym, ap, subst, _∙_}
+use mathlib.Core.List.{List, [], _∷_}
+use lib.ListN.{length, getD, take, drop, set, length-set, drop-of-length-le}
+use lib.Seq.{sets, drop-cons, take-all, set-out, getD-set-same, getD-set-other, ext-getD}
+use Rattle.integers.specs.Lists.{All}
+
+module _ {A : Type 0} where
+  -- ---- what a run of stores leaves
+
+  pub sets-before : (z : A) (vs l : List A) (b m : ℕ) → m < b → getD (sets l b vs) m z ≡ getD l m z
+  sets-before z [] l b m h = refl
+  sets-before z (v ∷ vs) l b m h = sets-before z vs (set l b v) (suc b) m (omega arith) ∙ getD-set-other l b m v z (omega arith)
+
+  pub sets-after : (z : A) (vs l : List A) (b m : ℕ) → b + length vs ≤ m → getD (sets l b vs) m z ≡ getD l m z
+  sets-after z [] l b m h = refl
+  sets-after z (v ∷ vs) l b m h = sets-after z vs (set l b v) (suc b) m (omega arith) ∙ getD-set-other l b m v z (omega arith)
+
+  pub sets-in : (z : A) (vs l : List A) (b k : ℕ) → k < length vs → b + length vs ≤ length l → getD (sets l b vs) (b + k) z ≡ getD vs k z
+  sets-in z [] l b k h g = absurd (omega arith)
+  sets-in z (v ∷ vs) l b zero h g =
+      rw add-zero (sets-before z vs (set l b v) (suc b) b (omega arith) ∙ getD-set-same l b v z (omega arith))
+  sets-in z (v ∷ vs) l b (suc k) h g =
+      let e : b + suc k ≡ suc b + k = omega arith in
+      rw e (sets-in z vs (set l b v) (suc b) k (omega arith) (simp length-set (omega arith)))
+
+  -- beyond the end nothing is stored
+  pub sets-out : (vs l : List A) (b : ℕ) → length l ≤ b → sets l b vs ≡ l
+  sets-out [] l b h = refl
+  sets-out (v ∷ vs) l b h = ap (λ (m : List A). sets m (suc b) vs) (set-out l b v h) ∙ sets-out vs l (suc b) (omega arith)
+
+  -- so a start beyond the end may be cut to it
+  pub sets-min : (vs l : List A) (b : ℕ) → sets l (min b (length l)) vs ≡ sets l b vs
+  sets-min vs l b = elim (decLe b (length l)) [
+    | yes h ↦ let e : min b (length l) ≡ b = omega arith in ap (λ (n : ℕ). sets l n vs) e
+    | no h ↦ sets-out vs l (min b (length l)) (omega arith) ∙ sym (sets-out vs l b (omega arith))
+  ]
+
+  pub drop-min : (l : List A) (b : ℕ) → drop (min b (length l)) l ≡ drop b l
+  drop-min l b = elim (decLe b (length l)) [
+    | yes h ↦ let e : min b (length l) ≡ b = omega arith in ap (λ (n : ℕ). drop n l) e
+    | no h ↦ drop-of-length-le l {i = min b (length l)} (omega arith) ∙ sym (drop-of-length-le l {i = b} (omega arith))
+  ]
+
+  pub take-min : (l : List A) (n : ℕ) → take (min n (length l)) l ≡ take n l
+  take-min l n = elim (decLe n (length l)) [
+    | yes h ↦ let e : min n (length l) ≡ n = omega arith in ap (λ (m : ℕ). take m l) e
+    | no h ↦ take-all (min n (length l)) l (omega arith) ∙ sym (take-all n l (omega arith))
+  ]
+
+  -- ---- a list filled from the front: its first j cells are f's
+
+  pub record Filled (z : A) (f : ℕ → A) (l : List A) (j : ℕ) : Type 0 where
+    pub cell : (k : ℕ) → k < j → getD l k z ≡ f k
+
+  pub filled-none : (z : A) (f : ℕ → A) (l : List A) → Filled z f l 0
+  filled-none z f l = record { cell = λ k h. absurd (omega arith) }
+
+  pub filled-more : {z : A} {f : ℕ → A} {l : List A} {j : ℕ} {a : A} → Filled z f l j → j < length l → a ≡ f j → Filled z f (set l j a) (j + 1)
+  filled-more {z} {f} {l} {j} {a} p h e = record {
+    cell = λ k g. elim (decLt k j) [
+      | yes b ↦ getD-set-other l j k a z (omega arith) ∙ p .cell k b
+      | no b ↦ let s : j ≡ k = omega arith in subst (λ (m : ℕ). getD (set l j a) m z ≡ f m) s (getD-set-same l j a z h ∙ e)
+    ];
+  }
+
+  pub filled-all : {z : A} {f : ℕ → A} {l : List A} {j : ℕ} → Filled z f l j → (m : List A) → length l ≡ length m → length m ≤ j →
+      ((k : ℕ) → k < length m → getD m k z ≡ f k) → l ≡ m
+  filled-all {z} {l} p m e h g = ext-getD z l m e (λ k b. p .cell k (omega arith) ∙ sym (g k (omega arith)))
+
+  -- ---- a list written over a part of another, a cell at a time: what is to come of it, r, is what the cells from j on make of l
+
+  pub record Writing (r l : List A) (at : ℕ) (s : List A) (j : ℕ) : Type 0 where
+    pub rest : r ≡ sets l (at + j) (drop j s)
+
+  pub writing-none : (l : List A) (at : ℕ) (s : List A) → Writing (sets l at s) l at s 0
+  writing-none l at s = record { rest = rw add-zero }
+
+  module _ {r l : List A} {at : ℕ} {s : List A} {j : ℕ} (p : Writing r l at s j) where
+    pub writing-more : {a : A} {m : List A} (z : A) → j < length s → a ≡ getD s j z → m ≡ set l (at + j) a → Writing r m at s (j + 1)
+    writing-more z h e d =
+        let n : at + (j + 1) ≡ suc (at + j) = omega arith in
+        let k : j + 1 ≡ suc j = omega arith in
+        record { rest = p .rest ∙ ap (sets l (at + j)) (drop-cons s j z h) ∙ rw (d, e, n, k) }
+
+    pub writing-all : length s ≤ j → l ≡ r
+    writing-all h = sym (p .rest ∙ ap (sets l (at + j)) (drop-of-length-le s h))
+
+-- ---- what holds of every element
+
+pub all-getD : {A : Type 0} (P : A → Type 0) (l : List A) (i : ℕ) (z : A) → All P l → P z → P (getD l i z)
+all-getD P [] i z h p = p
+all-getD P (a ∷ l) zero z h p = h .0
+all-getD P (a ∷ l) (suc i) z h p = all-getD P l i z (h .1) p

@@ -1,0 +1,129 @@
+-- What the code of rows reads and writes is what the definitions say.
+use Prim.Native.Nat.{ℕ, zero, suc, min, _+_, _-_, _*_, _^_, _≤_, _<_}
+use native.Mathlib.Omega.{arith}
+use native.Mathlib.Nat.{add-zero}
+use native.Mathlib.Numerals.{towards-suc}
+use mathlib.Core.Path.{_≡_, refl, sym, ap, _∙_}
+use mathlib.Core.Bool.{Bool, true, false, cond, not}
+use mathlib.Core.List.{List}
+use mathlib.Core.Option.{some, none}
+use lib.Dec.{eqb}
+use lib.IntN.{ℤ}
+use lib.Signed.{leZ, mag}
+use lib.ListN.{length, getD, take, drop, set, length-take, length-drop, length-map, List·getD-eq-default, List·getD-map}
+use lib.Seq.{sets, getD-take, getD-drop}
+use mir.Syntax.{w32}
+use mir.Val.{toZ, ofZ}
+use Rattle.integers.proofs.Bits.{back32}
+use Rattle.integers.proofs.Stores.{sets-min, drop-min, take-min, Filled, filled-all, Writing, writing-more, writing-all}
+use Rattle.interval.specs.declared.Integrality.{Integrality}
+use Rattle.interval.specs.declared.Interval.{Interval}
+use Rattle.interval.specs.declared.Interval.the-variants.{Bottom, Bounded}
+use Rattle.interval.specs.declared.Bound.{Bound}
+use Rattle.cells.specs.Cells.{ofCell}
+use Rattle.lattice.specs.declared.Reason.{Reason}
+use Rattle.lattice.specs.declared.Reason.the-variants.{None}
+use Rattle.lattice.specs.declared.Abstract.{Abstract}
+use Rattle.lattice.specs.Value.{Value, valueOf, reasonNumber}
+use Rattle.rows.specs.Row.{row, padded, integralityCell, caseCell, lowCell, highCell, boundCells, keptCell, listOf, encode, integralityOf, intervalOf, reasons, reasonOf, idOf, idsOf, decode, valueAt, put}
+use Rattle.rows.proofs.RowLaws.{length-padded, getD-padded, row-cell}
+
+-- ---- one cell
+
+pub no-interval : (n : ℕ) (low high : ℤ) → (n ≡ 2 → ⊥) → (n ≡ 1 → ⊥) → Bottom ≡ intervalOf n low high
+no-interval zero low high p q = refl
+no-interval (suc zero) low high p q = absurd (q refl)
+no-interval (suc (suc zero)) low high p q = absurd (p refl)
+no-interval (suc (suc (suc n))) low high p q = refl
+
+pub no-reason : (n : ℕ) → (n ≡ 1 → ⊥) → (n ≡ 2 → ⊥) → (n ≡ 3 → ⊥) → (n ≡ 4 → ⊥) → (n ≡ 5 → ⊥) → (n ≡ 6 → ⊥) → None ≡ reasonOf n
+no-reason zero a b c d e f = refl
+no-reason (suc n) a b c d e f = sym (List·getD-eq-default (drop 1 reasons) None {n = n} (omega arith))
+
+module _ {n : ℕ} {a b : ℤ} (one : n ≡ 1) (low high : ℤ) (fl : mag low < 2 ^ 31) (fh : mag high < 2 ^ 31) (el : low ≡ a) (eh : high ≡ b) where
+  pub ascending : leZ (toZ w32 (ofZ w32 low)) (toZ w32 (ofZ w32 high)) ≡ true → Bounded (toZ w32 (ofZ w32 low)) (toZ w32 (ofZ w32 high)) ≡ intervalOf n a b
+  ascending t = rw (one, ← el, ← eh, back32 low fl, back32 high fh, rw (back32 low fl, back32 high fh) at t)
+
+  pub descending : leZ (toZ w32 (ofZ w32 low)) (toZ w32 (ofZ w32 high)) ≡ false → Bottom ≡ intervalOf n a b
+  descending t = rw (one, ← el, ← eh, rw (back32 low fl, back32 high fh) at t)
+
+-- ---- the bound
+
+pub bound-put : (d : List ℕ) (at : ℕ) (b : Bound) {a₀ a₁ a₂ a₃ : ℕ} {l₁ l₂ l₃ r : List ℕ} →
+    a₀ ≡ integralityCell (b .integrality) → a₁ ≡ caseCell (b .interval) → a₂ ≡ lowCell (b .interval) → a₃ ≡ highCell (b .interval) →
+    l₁ ≡ set d at a₀ → l₂ ≡ set l₁ (at + 1) a₁ → l₃ ≡ set l₂ (at + 2) a₂ → r ≡ set l₃ (at + 3) a₃ → r ≡ sets d at (boundCells b)
+bound-put d at b e₀ e₁ e₂ e₃ p₁ p₂ p₃ p = p ∙ rw (p₃, p₂, p₁, e₀, e₁, e₂, e₃) (simp towards-suc)
+
+-- ---- the list
+
+pub list-length : (v : Abstract) {n : ℕ} → v .kept ≡ true → length (v .ids) ≡ 16 → n ≡ min (v .len) 16 → n ≡ length (listOf (valueOf v .values))
+list-length v k l e = rw (k, length-take, l, e)
+
+-- ---- the ids
+
+pub ids-read : (cells : List ℕ) (at : ℕ) {ids : List ℕ} {j : ℕ} → Filled 0 (λ k. idOf (getD cells (at + 7 + k) 0)) ids j → length ids ≡ 16 → 16 ≤ j →
+    ids ≡ idsOf (padded row (drop at cells))
+ids-read cells at {ids} {j} p n h =
+    let l : length (idsOf (padded row (drop at cells))) ≡ 16 = simp (length-map, length-take, length-drop, length-padded) in
+    filled-all p (idsOf (padded row (drop at cells))) (n ∙ sym l) (omega arith)
+    (λ k g.
+    let e : at + (7 + k) ≡ at + 7 + k = omega arith in
+    List·getD-map idOf (take 16 (drop 7 (padded row (drop at cells)))) k 0
+    ∙ ap idOf (getD-take 16 (drop 7 (padded row (drop at cells))) k 0 (omega arith) ∙ getD-drop 7 (padded row (drop at cells)) k 0
+    ∙ row-cell cells at (7 + k) (omega arith) ∙ ap (λ (m : ℕ). getD cells m 0) e))
+
+module _ (n : ℕ) (s : List ℕ) {r l : List ℕ} {at j : ℕ} (p : Writing r l at (padded n s) j) where
+  pub id-put : {a : ℕ} {m : List ℕ} → j < n → a ≡ getD s j 0 → m ≡ set l (at + j) a → Writing r m at (padded n s) (j + 1)
+  id-put h e d = writing-more p 0 (omega (arith, length-padded n s)) (e ∙ sym (getD-padded n s j h)) d
+
+  pub ids-put : n ≤ j → l ≡ r
+  ids-put h = writing-all p (omega (arith, length-padded n s))
+
+-- ---- a whole row
+
+-- a list that was read, and one that is written, as the value has it
+kept-list : (t : Bool) (n : ℕ) (l : List ℕ) → length l ≡ 16 → cond (not t) (some (take (min n 16) l)) none ≡ cond t none (some (take n l))
+kept-list true n l h = refl
+kept-list false n l h = ap some (ap (λ (m : ℕ). take (min n m) l) (sym h) ∙ take-min l n)
+
+taken : (t : Bool) (n : ℕ) (l : List ℕ) → take (length (listOf (cond t (some (take n l)) none))) l ≡ listOf (cond t (some (take n l)) none)
+taken true n l = ap (λ (m : ℕ). take m l) (length-take n l) ∙ take-min l n
+taken false n l = refl
+
+module _ (cells : List ℕ) (i at : ℕ) (start : at ≡ min (row * i) (length cells)) where
+  the-row : padded row (drop at cells) ≡ padded row (drop (row * i) cells)
+  the-row = ap (λ (n : ℕ). padded row (drop n cells)) start ∙ ap (padded row) (drop-min cells (row * i))
+
+  cell : (k : ℕ) → k < row → getD cells (at + k) 0 ≡ getD (padded row (drop at cells)) k 0
+  cell k h = sym (row-cell cells at k h)
+
+  first : getD cells at 0 ≡ getD (padded row (drop at cells)) 0 0
+  first = rw add-zero at (cell 0 (omega arith))
+
+  pub row-read : {a₀ a₁ a₂ a₃ a₄ a₅ a₆ len : ℕ} {g : Integrality} {x : Interval} {w : Reason} {ids : List ℕ} →
+      a₀ ≡ getD cells at 0 → a₁ ≡ getD cells (at + 1) 0 → a₂ ≡ getD cells (at + 2) 0 → a₃ ≡ getD cells (at + 3) 0 →
+      a₄ ≡ getD cells (at + 4) 0 → a₅ ≡ getD cells (at + 5) 0 → a₆ ≡ getD cells (at + 6) 0 →
+      g ≡ integralityOf a₀ → x ≡ intervalOf a₁ (ofCell a₂) (ofCell a₃) → len ≡ min a₅ 16 → w ≡ reasonOf a₆ → ids ≡ idsOf (padded row (drop at cells)) →
+      valueOf (record { bound = record { integrality = g; interval = x }; ids = ids; len = len; kept = not (eqb a₄ 0); reason = w }) ≡ valueAt cells i
+  unfolding valueAt decode
+  row-read e₀ e₁ e₂ e₃ e₄ e₅ e₆ eg ex en ew ei =
+      let l : length (idsOf (padded row (drop at cells))) ≡ 16 = simp (length-map, length-take, length-drop, length-padded) in
+      rw (← the-row, eg, ex, en, ew, ei, e₀, first, e₁, cell 1 (omega arith), e₂, cell 2 (omega arith), e₃, cell 3 (omega arith))
+      (rw (e₄, cell 4 (omega arith), e₅, cell 5 (omega arith), e₆, cell 6 (omega arith))
+      (rw (kept-list (eqb (getD (padded row (drop at cells)) 4 0) 0) (getD (padded row (drop at cells)) 5 0) (idsOf (padded row (drop at cells))) l)))
+
+  -- the stores of the bound, of three cells and of the ids, as one
+  stores : (v : Value) →
+      sets (set (set (set (sets cells at (boundCells (v .bound))) (at + 4) (keptCell (v .values))) (at + 5) (length (listOf (v .values)))) (at + 6) (reasonNumber (v .widening)))
+      (at + 7) (padded (row - 7) (listOf (v .values))) ≡ sets cells at (encode v)
+  unfolding encode
+  stores v = simp towards-suc
+
+  pub row-put : (v : Abstract) {k len w : ℕ} {l₁ l₂ l₃ l₄ r : List ℕ} →
+      k ≡ keptCell (valueOf v .values) → len ≡ length (listOf (valueOf v .values)) → w ≡ reasonNumber (v .reason) →
+      l₁ ≡ sets cells at (boundCells (v .bound)) → l₂ ≡ set l₁ (at + 4) k → l₃ ≡ set l₂ (at + 5) len → l₄ ≡ set l₃ (at + 6) w →
+      r ≡ sets l₄ (at + 7) (padded (row - 7) (take len (v .ids))) → r ≡ put cells i (valueOf v)
+  unfolding put
+  row-put v ek en ew p₁ p₂ p₃ p₄ p =
+      p ∙ rw (p₄, p₃, p₂, p₁, ek, en, ew, taken (v .kept) (v .len) (v .ids))
+      (stores (valueOf v) ∙ ap (λ (n : ℕ). sets cells n (encode (valueOf v))) start ∙ sets-min (encode (valueOf v)) cells (row * i))
