@@ -47,6 +47,9 @@ module _ (held w e me : ℕ) {x : Charged} (h : x ≡ chargeOf ValueEntries e 1 
 abbrev pub Retaining : ℕ → ℕ → ℕ → ℕ → ℕ → ℕ → Type 0
 Retaining count w e me held live = (mw : ℕ) → retainAll 0 count (meter w mw e me) ≡ retainAll held (count - held) (meter w mw live me)
 
+pub retaining : (count w e me : ℕ) → Retaining count w e me 0 e
+retaining count w e me = λ mw. let z : count - 0 ≡ count = omega arith in rw z
+
 module _ (count w e me held live : ℕ) (r : Retaining count w e me held live) where
   pub retained-all : count ≤ held → Retains count w e me (Taken w live)
   unfolding retainAll _>>_ _>>=_ after pure

@@ -1,9 +1,8 @@
 -- `lists::retain_all` meets its contract.
 use Prim.Native.Nat.{_-_}
 use native.Mathlib.Omega.{arith}
-use mathlib.Core.Path.{refl}
 use borrow.Author.Needs.{needs}
-use Rattle.lists.proofs.CodeLaws.{Retaining, retained-all, retained-stopped, retained-more}
+use Rattle.lists.proofs.CodeLaws.{Retaining, retaining, retained-all, retained-stopped, retained-more}
 use Rattle.lists.proofs.retain_all.Statement.{statement}
 use Rattle.lists.proofs.retain_all.Tie as tie
 
@@ -14,7 +13,7 @@ abbrev μ-loop : tie.MeasureT-loop
 μ-loop count work entries max-entries held₀ live₀ held live = count - held
 
 loop-holds : tie.Need-loop-holds Inv-loop μ-loop
-loop-holds c = λ mw. refl
+loop-holds c = retaining _ _ _ _
 
 charge-requires : tie.Need-charge-requires Inv-loop μ-loop
 charge-requires c κs = search needs
