@@ -5,3 +5,5 @@ pub mod Copies
 pub mod Tidiness
 pub mod Steadiness
 pub mod Members
+pub mod CodeLaws
+pub mod Sifting

@@ -47,8 +47,11 @@ abbrev pub copiedList : Option (List ℕ) → Metered Stop Meter (Unit {0})
 copiedList none = pure tt
 copiedList (some l) = work (length l) >> retainAll 0 (length l)
 
+abbrev pub copiedAs : Value → Option (List ℕ) → Metered Stop Meter Value
+copiedAs v l = copiedList l >> pure v
+
 unfoldable pub copied : Value → Metered Stop Meter Value
-copied v = work 1 >> copiedList (v .values) >> pure v
+copied v = work 1 >> copiedAs v (v .values)
 
 abbrev pub sameLists : Option (List ℕ) → Option (List ℕ) → Metered Stop Meter Bool
 sameLists none none = pure true

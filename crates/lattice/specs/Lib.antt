@@ -1,3 +1,4 @@
 pub mod Value
 pub mod Constants
 pub mod Lattice
+pub mod Answers

@@ -16,9 +16,9 @@ use Rattle.limits.specs.declared.Billed.{Billed}
 use Rattle.limits.specs.declared.Billed.the-variants.{Paid as Accepted, Stopped as Refused}
 use Rattle.limits.specs.Charge.{stopOf, chargeOf}
 use Rattle.limits.specs.Records.{limitOf, countOf, withCount, withWidened, withStatistics}
-use Rattle.limits.specs.Metered.{Run, going, stopped}
+use Rattle.limits.specs.Metered.{Run, going, stopped, Metered, mapped, through}
 use Rattle.limits.specs.Budget.{charge, charged, released, widenedOnce, ran}
-use Rattle.limits.specs.Meter.{meter}
+use Rattle.limits.specs.Meter.{Meter, meter, holding}
 use Rattle.limits.specs.Meter as inner
 
 module _ (r : Resource) (old amount limit : ℕ) where
@@ -100,3 +100,14 @@ module _ {x : Charged} (w mw e me amount : ℕ) where
     pub retain-stopped : {s : Stop} {n : ℕ} → x ≡ Stopped s n → stopped s (meter w mw n me) ≡ inner.retain amount (meter w mw e me)
     unfolding inner.retain
     retain-stopped p = rw (stays ValueEntries e amount me (sym h ∙ p), ← h, p)
+
+-- ---- while entries are held
+
+module _ {A : Type 0} (n : ℕ) (c : Metered Stop Meter A) (m : Meter) where
+  pub hold-on : {a : A} {m′ : Meter} → going a m′ ≡ c m → going a m′ ≡ holding n c m
+  unfolding through mapped
+  hold-on h = rw (← h)
+
+  pub hold-stop : {s : Stop} {m′ : Meter} → stopped s m′ ≡ c m → stopped s (inner.released n m′) ≡ holding n c m
+  unfolding through mapped
+  hold-stop h = rw (← h)

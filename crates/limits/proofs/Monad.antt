@@ -48,6 +48,36 @@ module _ {E S A B : Type 0} where
       on (going b′ s′) h = h b′ s′
       on (stopped e s′) h = refl
 
+-- ---- what a computation gives, step by step: from what its first step gives
+
+module _ {E S A B : Type 0} (c : Metered E S A) (s : S) where
+  pub bind-stop : (f : A → Metered E S B) {e : E} {t : S} → stopped e t ≡ c s → stopped e t ≡ (c >>= f) s
+  unfolding _>>=_ after
+  bind-stop f h = rw (← h)
+
+  pub bind-on : (f : A → Metered E S B) {a : A} {t : S} {y : Run E S B} → going a t ≡ c s → y ≡ f a t → y ≡ (c >>= f) s
+  unfolding _>>=_ after
+  bind-on f h k = rw (← h) k
+
+  pub then-stop : (d : Metered E S B) {e : E} {t : S} → stopped e t ≡ c s → stopped e t ≡ (c >> d) s
+  unfolding _>>_
+  then-stop d h = bind-stop (λ _. d) h
+
+  pub then-on : (d : Metered E S B) {a : A} {t : S} {y : Run E S B} → going a t ≡ c s → y ≡ d t → y ≡ (c >> d) s
+  unfolding _>>_
+  then-on d h k = bind-on (λ _. d) h k
+
+module _ {E S A : Type 0} where
+  pub pure-is : (a : A) (s : S) → _≡_ {A = Run E S A} (going a s) (pure a s)
+  unfolding pure
+  pure-is a s = refl
+
+  pub yes-on : {t : Bool} (c d : Metered E S A) (s : S) {y : Run E S A} → t ≡ true → y ≡ c s → y ≡ cond t c d s
+  yes-on c d s e k = rw e k
+
+  pub no-on : {t : Bool} (c d : Metered E S A) (s : S) {y : Run E S A} → t ≡ false → y ≡ d s → y ≡ cond t c d s
+  no-on c d s e k = rw e k
+
 -- ---- Ensures: P holds of the value, from whatever state, where the computation completes
 
 module _ {E S A : Type 0} where

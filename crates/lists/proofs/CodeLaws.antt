@@ -5,6 +5,7 @@ use native.Mathlib.Numerals.{add-one}
 use mathlib.Core.Path.{_≡_, refl, sym, ap, subst, _∙_}
 use mathlib.Core.Bool.{Bool, true, false, cond}
 use mathlib.Core.List.{List, [], _∷_}
+use mathlib.Core.Option.{Option, some, none}
 use borrow.Author.Tests.{ltb-true, ltb-false, lt-ltb, le-ltb, le-leb, lt-leb, eq-eqb, ne-eqb}
 use lib.Dec.{ltb, leb, eqb}
 use lib.ListN.{length, take, drop, getD, length-take, drop-of-length-le}
@@ -30,7 +31,10 @@ use Rattle.lists.specs.declared.Found.the-variants.{Nothing, Id}
 use Rattle.lists.specs.declared.Next.{Next}
 use Rattle.lists.specs.declared.Next.the-variants.{End, Take}
 use Rattle.lists.specs.Lists.{headOf, stepOf, nextOf, push, retainAll, takeOne, permitsIn, sameIds}
-use Rattle.lists.specs.Answers.{Pushes, Retains, Answers, told, tried}
+use Rattle.lists.specs.declared.Kept.the-variants.{All, None}
+use Rattle.lists.specs.declared.Kept.the-variants as kept
+use Rattle.lists.specs.declared.Merged.{Merged}
+use Rattle.lists.specs.Answers.{merged, Pushes, Retains, Answers, told, tried}
 
 -- ---- one entry more, and one step of a merge
 
@@ -44,28 +48,28 @@ module _ (held w e me : ℕ) {x : Charged} (h : x ≡ chargeOf ValueEntries e 1 
   pushes-stopped p q = record { at = λ mw. rw (q, ← retain-stopped w mw e me 1 h p) }
 
 -- the entries of a list begun at e are those that are still to come, with `held` live
-abbrev pub Retaining : ℕ → ℕ → ℕ → ℕ → ℕ → ℕ → Type 0
-Retaining count w e me held live = (mw : ℕ) → retainAll 0 count (meter w mw e me) ≡ retainAll held (count - held) (meter w mw live me)
+abbrev pub Retaining : ℕ → ℕ → ℕ → ℕ → ℕ → Type 0
+Retaining count e me held live = (w mw : ℕ) → retainAll 0 count (meter w mw e me) ≡ retainAll held (count - held) (meter w mw live me)
 
-pub retaining : (count w e me : ℕ) → Retaining count w e me 0 e
-retaining count w e me = λ mw. let z : count - 0 ≡ count = omega arith in rw z
+pub retaining : (count e me : ℕ) → Retaining count e me 0 e
+retaining count e me = λ w mw. let z : count - 0 ≡ count = omega arith in rw z
 
-module _ (count w e me held live : ℕ) (r : Retaining count w e me held live) where
-  pub retained-all : count ≤ held → Retains count w e me (Taken w live)
-  unfolding retainAll _>>_ _>>=_ after pure
-  retained-all h = let z : count - held ≡ 0 = omega arith in record { at = λ mw. rw (r mw, z) }
+module _ (count e me held live : ℕ) (r : Retaining count e me held live) where
+  pub retained-all : count ≤ held → Retains count e me (Paid live)
+  unfolding retainAll pure
+  retained-all h = let z : count - held ≡ 0 = omega arith in record { at = λ w mw. rw (r w mw, z) }
 
   module _ (h : held < count) {x : Charged} (k : x ≡ chargeOf ValueEntries live 1 me) where
     left-over : count - held ≡ suc (count - (held + 1))
     left-over = omega arith
 
-    pub retained-stopped : {s : Stop} {n q : ℕ} → x ≡ Stopped s n → q ≡ n - held → Retains count w e me (trial.Stopped s w q)
+    pub retained-stopped : {s : Stop} {n q : ℕ} → x ≡ Stopped s n → q ≡ n - held → Retains count e me (Stopped s q)
     unfolding retainAll push through mapped _>>_ _>>=_ after
-    retained-stopped p z = record { at = λ mw. rw (r mw, left-over, z, ← retain-stopped w mw live me 1 k p) }
+    retained-stopped p z = record { at = λ w mw. rw (r w mw, left-over, z, ← retain-stopped w mw live me 1 k p) }
 
-    pub retained-more : {n : ℕ} → x ≡ Paid n → Retaining count w e me (held + 1) n
+    pub retained-more : {n : ℕ} → x ≡ Paid n → Retaining count e me (held + 1) n
     unfolding retainAll push through mapped _>>_ _>>=_ after
-    retained-more p = λ mw. r mw ∙ ap (λ (i : ℕ). retainAll held i (meter w mw live me)) left-over ∙ rw (← retain-paid w mw live me 1 k p)
+    retained-more p = λ w mw. r w mw ∙ ap (λ (i : ℕ). retainAll held i (meter w mw live me)) left-over ∙ rw (← retain-paid w mw live me 1 k p)
 
 module _ (width held w mw e me : ℕ) {x : Charged} (h : x ≡ chargeOf Work w 1 mw) where
   pub take-stopped : {s : Stop} {n r : ℕ} → x ≡ Stopped s n → r ≡ e - held → tried (trial.Stopped s n r) mw me ≡ takeOne width held (meter w mw e me)
@@ -201,3 +205,15 @@ module _ (l r : List ℕ) (w mw : ℕ) where
 
         pub compare-falls : length l - j < length l - i
         compare-falls = let a = here-is l i p in omega arith
+
+-- ---- a merge, by the code's answer
+
+module _ (r : Merged) (mw me : ℕ) {z : Run Stop Meter (Option (List ℕ))} (h : merged r mw me ≡ z) where
+  pub merged-all : r .kept ≡ All → going (some (take (r .len) (r .ids))) (meter (r .work) mw (r .entries) me) ≡ z
+  merged-all p = rw p at h
+
+  pub merged-none : r .kept ≡ None → going none (meter (r .work) mw (r .entries) me) ≡ z
+  merged-none p = rw p at h
+
+  pub merged-stopped : {s : Stop} → r .kept ≡ kept.Stopped s → stopped s (meter (r .work) mw (r .entries) me) ≡ z
+  merged-stopped p = rw p at h

@@ -6,6 +6,9 @@ use mathlib.Core.List.{List}
 use mathlib.Core.Option.{Option, some, none}
 use lib.ListN.{take}
 use Rattle.limits.specs.declared.Stop.{Stop}
+use Rattle.limits.specs.declared.Charged.{Charged}
+use Rattle.limits.specs.declared.Charged.the-variants.{Paid}
+use Rattle.limits.specs.declared.Charged.the-variants as charged
 use Rattle.limits.specs.Metered.{Run, going, stopped, Metered, pure, _>>_}
 use Rattle.limits.specs.Meter.{Meter, meter}
 use Rattle.lists.specs.declared.Verdict.{Verdict}
@@ -39,9 +42,13 @@ tried (trial.Stopped s w e) mw me = stopped s (meter w mw e me)
 pub record Pushes (held work entries maxEntries : ℕ) (r : Trial) : Type 0 where
   pub at : (mw : ℕ) → tried r mw maxEntries ≡ (push held >> pure true) (meter work mw entries maxEntries)
 
--- all entries of a list
-pub record Retains (count work entries maxEntries : ℕ) (r : Trial) : Type 0 where
-  pub at : (mw : ℕ) → tried r mw maxEntries ≡ (retainAll 0 count >> pure true) (meter work mw entries maxEntries)
+-- all entries of a list, whatever the work and its limit are
+abbrev pub chargedAs : Charged → ℕ → ℕ → ℕ → Run Stop Meter (Unit {0})
+chargedAs (Paid e) w mw me = going tt (meter w mw e me)
+chargedAs (charged.Stopped s e) w mw me = stopped s (meter w mw e me)
+
+pub record Retains (count entries maxEntries : ℕ) (r : Charged) : Type 0 where
+  pub at : (w mw : ℕ) → chargedAs r w mw maxEntries ≡ retainAll 0 count (meter w mw entries maxEntries)
 
 abbrev pub mergedAs : Kept → List ℕ → Meter → Run Stop Meter (Option (List ℕ))
 mergedAs All l m = going (some l) m

@@ -53,13 +53,20 @@ pub struct Merged {
 }
 
 // The ids that an array has of a list.
-pub fn clamped(len: usize) -> usize
+fn clamped(len: usize) -> usize
     ensures { λ r. ⌜ r ≡ min len 16 ⌝ }
 {
     if 16 < len {
         return 16;
     }
     len
+}
+
+// The length of a list.
+pub fn length_of(ids: [u16; 16], len: usize) -> usize
+    ensures { λ r. ⌜ r ≡ length (take len ids) ⌝ }
+{
+    clamped(len)
 }
 
 pub fn id_at(ids: [u16; 16], len: usize, i: usize) -> Found
@@ -87,15 +94,15 @@ pub fn retain_one(held: u64, work: u64, entries: u64, max_entries: u64) -> Trial
 }
 
 // All entries of a list, one by one.
-pub fn retain_all(count: u64, work: u64, entries: u64, max_entries: u64) -> Trial
-    ensures { λ r. ⌜ Retains count work entries «max_entries» r ⌝ }
+pub fn retain_all(count: u64, entries: u64, max_entries: u64) -> Charged
+    ensures { λ r. ⌜ Retains count entries «max_entries» r ⌝ }
 {
     let mut held: u64 = 0;
     let mut live = entries;
     while held < count {
         match limits::charge(Resource::ValueEntries, live, 1, max_entries) {
             Charged::Stopped(stop, now) => {
-                return Trial::Stopped(stop, work, limits::release(now, held));
+                return Charged::Stopped(stop, limits::release(now, held));
             }
             Charged::Paid(now) => {
                 live = now;
@@ -103,7 +110,7 @@ pub fn retain_all(count: u64, work: u64, entries: u64, max_entries: u64) -> Tria
         }
         held = held + 1;
     }
-    Trial::Taken(work, live)
+    Charged::Paid(live)
 }
 
 // One step of a merge: whether one more id fits the width, and the array.

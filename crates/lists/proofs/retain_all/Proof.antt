@@ -7,13 +7,13 @@ use Rattle.lists.proofs.retain_all.Statement.{statement}
 use Rattle.lists.proofs.retain_all.Tie as tie
 
 abbrev Inv-loop : tie.InvT-loop
-Inv-loop count work entries max-entries held₀ live₀ held live = Retaining count work entries max-entries held live
+Inv-loop count entries max-entries held₀ live₀ held live = Retaining count entries max-entries held live
 
 abbrev μ-loop : tie.MeasureT-loop
-μ-loop count work entries max-entries held₀ live₀ held live = count - held
+μ-loop count entries max-entries held₀ live₀ held live = count - held
 
 loop-holds : tie.Need-loop-holds Inv-loop μ-loop
-loop-holds c = retaining _ _ _ _
+loop-holds c = retaining _ _ _
 
 charge-requires : tie.Need-charge-requires Inv-loop μ-loop
 charge-requires c κs = search needs
@@ -25,7 +25,7 @@ release-requires : tie.Need-release-requires Inv-loop μ-loop
 release-requires c κs = search needs
 
 returns : tie.Need-returns Inv-loop μ-loop
-returns c = retained-stopped _ _ _ _ _ _ (c .before .before .before .before .before .before .loop .inv) (c .before .before .before .before .before .loop-test .taken) (c .before .before .before .before .charge .ensures) (c .before .before .stop .given .1) (c .release .ensures)
+returns c = retained-stopped _ _ _ _ _ (c .before .before .before .before .before .before .loop .inv) (c .before .before .before .before .before .loop-test .taken) (c .before .before .before .before .charge .ensures) (c .before .before .stop .given .1) (c .release .ensures)
 
 enum-known-now : tie.Need-enum-known-now Inv-loop μ-loop
 enum-known-now c = search needs
@@ -37,10 +37,10 @@ loop-less : tie.Need-loop-less Inv-loop μ-loop
 loop-less c = omega arith
 
 loop-again : tie.Need-loop-again Inv-loop μ-loop
-loop-again c = retained-more _ _ _ _ _ _ (c .before .before .before .before .before .loop .inv) (c .before .before .before .before .loop-test .taken) (c .before .before .before .charge .ensures) (c .before .now .given .1)
+loop-again c = retained-more _ _ _ _ _ (c .before .before .before .before .before .loop .inv) (c .before .before .before .before .loop-test .taken) (c .before .before .before .charge .ensures) (c .before .now .given .1)
 
 returns-2 : tie.Need-returns-2 Inv-loop μ-loop
-returns-2 c = retained-all _ _ _ _ _ _ (c .before .loop .inv) (omega arith)
+returns-2 c = retained-all _ _ _ _ _ (c .before .loop .inv) (omega arith)
 
 pub retain-all-spec : {M : Type 1} → statement M
 retain-all-spec =
