@@ -56,7 +56,7 @@ fn greatest(a: i32, b: i32) -> i32
 }
 
 // From low to high, or nothing where they descend.
-fn ascending(low: i32, high: i32) -> Interval
+pub fn ascending(low: i32, high: i32) -> Interval
     ensures { λ r. ⌜ r ≡ ascendingOf low high ⌝ }
 {
     if low <= high {

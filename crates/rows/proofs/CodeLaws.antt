@@ -20,6 +20,7 @@ use Rattle.interval.specs.declared.Integrality.{Integrality}
 use Rattle.interval.specs.declared.Interval.{Interval}
 use Rattle.interval.specs.declared.Interval.the-variants.{Bottom, Bounded}
 use Rattle.interval.specs.declared.Bound.{Bound}
+use Rattle.interval.specs.Interval.{ascendingOf}
 use Rattle.cells.specs.Cells.{ofCell}
 use Rattle.lattice.specs.declared.Reason.{Reason}
 use Rattle.lattice.specs.declared.Reason.the-variants.{None}
@@ -40,12 +41,8 @@ pub no-reason : (n : ℕ) → (n ≡ 1 → ⊥) → (n ≡ 2 → ⊥) → (n ≡
 no-reason zero a b c d e f = refl
 no-reason (suc n) a b c d e f = sym (List·getD-eq-default (drop 1 reasons) None {n = n} (omega arith))
 
-module _ {n : ℕ} {a b : ℤ} (one : n ≡ 1) (low high : ℤ) (fl : mag low < 2 ^ 31) (fh : mag high < 2 ^ 31) (el : low ≡ a) (eh : high ≡ b) where
-  pub ascending : leZ (toZ w32 (ofZ w32 low)) (toZ w32 (ofZ w32 high)) ≡ true → Bounded (toZ w32 (ofZ w32 low)) (toZ w32 (ofZ w32 high)) ≡ intervalOf n a b
-  ascending t = rw (one, ← el, ← eh, back32 low fl, back32 high fh, rw (back32 low fl, back32 high fh) at t)
-
-  pub descending : leZ (toZ w32 (ofZ w32 low)) (toZ w32 (ofZ w32 high)) ≡ false → Bottom ≡ intervalOf n a b
-  descending t = rw (one, ← el, ← eh, rw (back32 low fl, back32 high fh) at t)
+pub one-interval : {n : ℕ} {a b low high : ℤ} {r : Interval} → n ≡ 1 → low ≡ a → high ≡ b → r ≡ ascendingOf low high → r ≡ intervalOf n a b
+one-interval one el eh e = e ∙ rw (one, el, eh)
 
 -- ---- the bound
 
@@ -56,8 +53,8 @@ bound-put d at b e₀ e₁ e₂ e₃ p₁ p₂ p₃ p = p ∙ rw (p₃, p₂, p�
 
 -- ---- the list
 
-pub list-length : (v : Abstract) {n : ℕ} → v .kept ≡ true → length (v .ids) ≡ 16 → n ≡ min (v .len) 16 → n ≡ length (listOf (valueOf v .values))
-list-length v k l e = rw (k, length-take, l, e)
+pub list-length : (v : Abstract) {n : ℕ} → v .kept ≡ true → n ≡ length (take (v .len) (v .ids)) → n ≡ length (listOf (valueOf v .values))
+list-length v k e = rw k e
 
 -- ---- the ids
 
@@ -82,9 +79,9 @@ module _ (n : ℕ) (s : List ℕ) {r l : List ℕ} {at j : ℕ} (p : Writing r l
 -- ---- a whole row
 
 -- a list that was read, and one that is written, as the value has it
-kept-list : (t : Bool) (n : ℕ) (l : List ℕ) → length l ≡ 16 → cond (not t) (some (take (min n 16) l)) none ≡ cond t none (some (take n l))
-kept-list true n l h = refl
-kept-list false n l h = ap some (ap (λ (m : ℕ). take (min n m) l) (sym h) ∙ take-min l n)
+kept-list : (t : Bool) (n : ℕ) (l : List ℕ) → cond (not t) (some (take n l)) none ≡ cond t none (some (take n l))
+kept-list true n l = refl
+kept-list false n l = refl
 
 taken : (t : Bool) (n : ℕ) (l : List ℕ) → take (length (listOf (cond t (some (take n l)) none))) l ≡ listOf (cond t (some (take n l)) none)
 taken true n l = ap (λ (m : ℕ). take m l) (length-take n l) ∙ take-min l n
@@ -100,17 +97,16 @@ module _ (cells : List ℕ) (i at : ℕ) (start : at ≡ min (row * i) (length c
   first : getD cells at 0 ≡ getD (padded row (drop at cells)) 0 0
   first = rw add-zero at (cell 0 (omega arith))
 
-  pub row-read : {a₀ a₁ a₂ a₃ a₄ a₅ a₆ len : ℕ} {g : Integrality} {x : Interval} {w : Reason} {ids : List ℕ} →
+  pub row-read : {a₀ a₁ a₂ a₃ a₄ a₅ a₆ : ℕ} {g : Integrality} {x : Interval} {w : Reason} {ids : List ℕ} →
       a₀ ≡ getD cells at 0 → a₁ ≡ getD cells (at + 1) 0 → a₂ ≡ getD cells (at + 2) 0 → a₃ ≡ getD cells (at + 3) 0 →
       a₄ ≡ getD cells (at + 4) 0 → a₅ ≡ getD cells (at + 5) 0 → a₆ ≡ getD cells (at + 6) 0 →
-      g ≡ integralityOf a₀ → x ≡ intervalOf a₁ (ofCell a₂) (ofCell a₃) → len ≡ min a₅ 16 → w ≡ reasonOf a₆ → ids ≡ idsOf (padded row (drop at cells)) →
-      valueOf (record { bound = record { integrality = g; interval = x }; ids = ids; len = len; kept = not (eqb a₄ 0); reason = w }) ≡ valueAt cells i
+      g ≡ integralityOf a₀ → x ≡ intervalOf a₁ (ofCell a₂) (ofCell a₃) → w ≡ reasonOf a₆ → ids ≡ idsOf (padded row (drop at cells)) →
+      valueOf (record { bound = record { integrality = g; interval = x }; ids = ids; len = a₅; kept = not (eqb a₄ 0); reason = w }) ≡ valueAt cells i
   unfolding valueAt decode
-  row-read e₀ e₁ e₂ e₃ e₄ e₅ e₆ eg ex en ew ei =
-      let l : length (idsOf (padded row (drop at cells))) ≡ 16 = simp (length-map, length-take, length-drop, length-padded) in
-      rw (← the-row, eg, ex, en, ew, ei, e₀, first, e₁, cell 1 (omega arith), e₂, cell 2 (omega arith), e₃, cell 3 (omega arith))
+  row-read e₀ e₁ e₂ e₃ e₄ e₅ e₆ eg ex ew ei =
+      rw (← the-row, eg, ex, ew, ei, e₀, first, e₁, cell 1 (omega arith), e₂, cell 2 (omega arith), e₃, cell 3 (omega arith))
       (rw (e₄, cell 4 (omega arith), e₅, cell 5 (omega arith), e₆, cell 6 (omega arith))
-      (rw (kept-list (eqb (getD (padded row (drop at cells)) 4 0) 0) (getD (padded row (drop at cells)) 5 0) (idsOf (padded row (drop at cells))) l)))
+      (rw (kept-list (eqb (getD (padded row (drop at cells)) 4 0) 0) (getD (padded row (drop at cells)) 5 0) (idsOf (padded row (drop at cells))))))
 
   -- the stores of the bound, of three cells and of the ids, as one
   stores : (v : Value) →

@@ -32,15 +32,6 @@ fn start(len: usize, number: usize) -> usize
     ROW * number
 }
 
-fn at_most_16(n: usize) -> usize
-    ensures { λ r. ⌜ r ≡ min n 16 ⌝ }
-{
-    if n < 16 {
-        return n;
-    }
-    16
-}
-
 fn integrality_of(cell: u32) -> Integrality
     ensures { λ r. ⌜ r ≡ integralityOf cell ⌝ }
 {
@@ -59,12 +50,7 @@ fn interval_of(number: u32, low: u32, high: u32) -> Interval
     if number != 1 {
         return Interval::Bottom;
     }
-    let low = of_cell(low);
-    let high = of_cell(high);
-    if low <= high {
-        return Interval::Bounded { low, high };
-    }
-    Interval::Bottom
+    interval::ascending(of_cell(low), of_cell(high))
 }
 
 fn reason_of(cell: u32) -> Reason
@@ -117,7 +103,7 @@ pub fn abstract_at(cells: &[u32], row: usize) -> Abstract
         cell_at(cells, at + 3),
     );
     let kept = cell_at(cells, at + 4) != 0;
-    let len = at_most_16(cell_at(cells, at + 5) as usize);
+    let len = cell_at(cells, at + 5) as usize;
     let reason = reason_of(cell_at(cells, at + 6));
     let ids = ids_at(cells, at);
     Abstract {
@@ -184,22 +170,6 @@ fn put_bound(cells: &mut [u32], at: usize, bound: Bound)
     put_cell(cells, at + 3, high_cell(interval));
 }
 
-fn reason_cell(reason: Reason) -> u32
-    ensures { λ r. ⌜ r ≡ reasonNumber reason ⌝ }
-{
-    match reason {
-        Reason::None => 0,
-        Reason::Some(widening) => match widening {
-            Widening::HeadForm => 1,
-            Widening::HeadTerm => 2,
-            Widening::UnboundVariable => 3,
-            Widening::SymbolSize => 4,
-            Widening::ValueWidth => 5,
-            Widening::Dependency => 6,
-        },
-    }
-}
-
 fn kept_cell(value: Abstract) -> u32
     ensures { λ r. ⌜ r ≡ keptCell (valueOf value .values) ⌝ }
 {
@@ -214,7 +184,8 @@ fn list_len(value: Abstract) -> u32
     ensures { λ r. ⌜ r ≡ length (listOf (valueOf value .values)) ⌝ }
 {
     if value.kept {
-        return at_most_16(value.len) as u32;
+        let ids = value.ids;
+        return lists::length_of(ids, value.len) as u32;
     }
     0
 }
@@ -255,6 +226,6 @@ pub fn put_abstract(cells: &mut [u32], row: usize, value: Abstract)
     put_bound(cells, at, bound);
     put_cell(cells, at + 4, kept_cell(value));
     put_cell(cells, at + 5, len);
-    put_cell(cells, at + 6, reason_cell(reason));
+    put_cell(cells, at + 6, reason.number());
     put_ids(cells, at, ids, len as usize);
 }

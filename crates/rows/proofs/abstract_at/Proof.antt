@@ -47,11 +47,8 @@ add-cell-at-5 c = search needs
 cell-at-requires-6 : tie.Need-cell-at-requires-6
 cell-at-requires-6 c κs = search needs
 
-cast-at-most-16 : tie.Need-cast-at-most-16
-cast-at-most-16 c = search needs
-
-at-most-16-requires : tie.Need-at-most-16-requires
-at-most-16-requires c κs = search needs
+cast-len : tie.Need-cast-len
+cast-len c = search needs
 
 add-cell-at-6 : tie.Need-add-cell-at-6
 add-cell-at-6 c = search needs
@@ -66,22 +63,7 @@ ids-at-requires : tie.Need-ids-at-requires
 ids-at-requires c κs = search needs
 
 returns : tie.Need-returns
-returns c =
-    let k₆ = c .before .before in
-    let k₅ = k₆ .before .before in
-    let k₄ = k₅ .before in
-    let i = k₄ .before in
-    let k₃ = i .before in
-    let k₂ = k₃ .before in
-    let k₁ = k₂ .before in
-    let g = k₁ .before in
-    let k₀ = g .before in
-    let s = k₀ .before in
-    let a = s .before .before .args in
-    row-read (now (a .cells)) (a .row) (s .start .result) (s .start .ensures)
-    (k₀ .cell-at .ensures) (k₁ .cell-at2 .ensures) (k₂ .cell-at3 .ensures) (k₃ .cell-at4 .ensures)
-    (k₄ .cell-at5 .ensures) (k₅ .cell-at6 .ensures) (k₆ .cell-at7 .ensures)
-    (g .integrality-of .ensures) (i .interval-of .ensures) (c .before .before .before .at-most-16 .ensures) (c .before .reason-of .ensures) (c .ids-at .ensures)
+returns c = row-read (now (c .before .before .before .before .before .before .before .before .before .before .before .before .before .args .cells)) (c .before .before .before .before .before .before .before .before .before .before .before .before .before .args .row) (c .before .before .before .before .before .before .before .before .before .before .before .start .result) (c .before .before .before .before .before .before .before .before .before .before .before .start .ensures) (c .before .before .before .before .before .before .before .before .before .before .cell-at .ensures) (c .before .before .before .before .before .before .before .before .cell-at2 .ensures) (c .before .before .before .before .before .before .before .cell-at3 .ensures) (c .before .before .before .before .before .before .cell-at4 .ensures) (c .before .before .before .before .cell-at5 .ensures) (c .before .before .before .cell-at6 .ensures) (c .before .before .cell-at7 .ensures) (c .before .before .before .before .before .before .before .before .before .integrality-of .ensures) (c .before .before .before .before .before .interval-of .ensures) (c .before .reason-of .ensures) (c .ids-at .ensures)
 
 pub abstract-at-spec : {M : Type 1} → statement M
 abstract-at-spec =
@@ -101,8 +83,7 @@ abstract-at-spec =
     cell-at-requires-5
     add-cell-at-5
     cell-at-requires-6
-    cast-at-most-16
-    at-most-16-requires
+    cast-len
     add-cell-at-6
     cell-at-requires-7
     reason-of-requires

@@ -32,8 +32,8 @@ put-cell-requires-2 c κs = search needs
 add-put-cell-3 : tie.Need-add-put-cell-3
 add-put-cell-3 c = search needs
 
-reason-cell-requires : tie.Need-reason-cell-requires
-reason-cell-requires c κs = search needs
+number-requires : tie.Need-number-requires
+number-requires c κs = search needs
 
 put-cell-requires-3 : tie.Need-put-cell-requires-3
 put-cell-requires-3 c κs = search needs
@@ -48,17 +48,7 @@ same-length : tie.Need-same-length
 same-length c = search needs
 
 returns : tie.Need-returns
-returns c =
-    let w = c .before .before .before .before .before .before in
-    let n = w .before .before .before .before .before in
-    let k = n .before .before .before .before in
-    let b = k .before .before .before .before .before in
-    let l = b .before .before in
-    let s = l .before .before .before in
-    let a = s .before .before .args in
-    row-put (now (a .cells)) (a .row) (s .start .result) (s .start .ensures) (a .value)
-    (k .before .kept-cell .ensures) (l .list-len .ensures) (w .before .reason-cell .ensures)
-    (b .put-bound .ensures) (k .put-cell .ensures) (n .put-cell2 .ensures) (w .put-cell3 .ensures) (c .before .before .put-ids .ensures)
+returns c = row-put (now (c .before .before .before .before .before .before .before .before .before .before .before .before .before .before .before .before .before .before .before .before .before .before .before .before .before .before .before .args .cells)) (c .before .before .before .before .before .before .before .before .before .before .before .before .before .before .before .before .before .before .before .before .before .before .before .before .before .before .before .args .row) (c .before .before .before .before .before .before .before .before .before .before .before .before .before .before .before .before .before .before .before .before .before .before .before .before .before .start .result) (c .before .before .before .before .before .before .before .before .before .before .before .before .before .before .before .before .before .before .before .before .before .before .before .before .before .start .ensures) (c .before .before .before .before .before .before .before .before .before .before .before .before .before .before .before .before .before .before .before .before .before .before .before .before .before .before .before .args .value) (c .before .before .before .before .before .before .before .before .before .before .before .before .before .before .before .before .kept-cell .ensures) (c .before .before .before .before .before .before .before .before .before .before .before .before .before .before .before .before .before .before .before .before .before .before .list-len .ensures) (c .before .before .before .before .before .before .before .number .ensures) (c .before .before .before .before .before .before .before .before .before .before .before .before .before .before .before .before .before .before .before .before .put-bound .ensures) (c .before .before .before .before .before .before .before .before .before .before .before .before .before .before .before .put-cell .ensures) (c .before .before .before .before .before .before .before .before .before .before .before .put-cell2 .ensures) (c .before .before .before .before .before .before .put-cell3 .ensures) (c .before .before .put-ids .ensures)
 
 pub put-abstract-spec : {M : Type 1} → statement M
 put-abstract-spec =
@@ -73,7 +63,7 @@ put-abstract-spec =
     add-put-cell-2
     put-cell-requires-2
     add-put-cell-3
-    reason-cell-requires
+    number-requires
     put-cell-requires-3
     cast-put-ids
     put-ids-requires
