@@ -1,0 +1,18 @@
+-- The code's answers, as what the monad gives. A refusal is what 01 tells of it.
+use Prim.Native.Nat.{ℕ}
+use Rattle.limits.specs.Refusal.{Told, told}
+use Rattle.limits.specs.Metered.{Run, going, stopped}
+use Rattle.store.specs.declared.Store.{Store}
+use Rattle.store.specs.declared.Done.{Done}
+use Rattle.store.specs.declared.Done.the-variants.{Ok, Refused}
+use Rattle.store.specs.declared.Answer.{Answer}
+use Rattle.store.specs.declared.Answer.the-variants.{Id}
+use Rattle.store.specs.declared.Answer.the-variants as answer
+
+abbrev pub done : Done → Run Told Store (Unit {0})
+done (Ok s) = going tt s
+done (Refused r s) = stopped (told r) s
+
+abbrev pub answered : Answer → Run Told Store ℕ
+answered (Id i s) = going i s
+answered (answer.Refused r s) = stopped (told r) s
