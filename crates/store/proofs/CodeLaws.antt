@@ -1,31 +1,38 @@
 -- What the code's answers are, over plain variables.
-use Prim.Native.Nat.{ℕ, _+_, _*_, _<_, _≤_}
+use Prim.Native.Nat.{ℕ, _+_, _-_, _*_, _<_, _≤_}
 use native.Mathlib.Omega.{arith}
+use native.Mathlib.Numerals.{add-one}
 use mathlib.Core.Path.{_≡_, refl, sym, ap, _∙_}
 use mathlib.Core.Bool.{Bool, true, false, cond, _&&_}
 use mathlib.Core.List.{List}
-use borrow.Author.Tests.{lt-ltb, le-ltb, le-leb, lt-leb, eq-eqb, ne-eqb}
+use borrow.Author.Tests.{leb-true, leb-false, ltb-true, lt-ltb, le-ltb, le-leb, lt-leb, eq-eqb, ne-eqb}
 use lib.Dec.{leb, ltb, eqb}
-use lib.ListN.{length, getD}
+use lib.ListN.{length, getD, set}
 use Rattle.limits.specs.declared.Limits.{Limits}
 use Rattle.limits.specs.declared.Resource.{Resource}
 use Rattle.limits.specs.declared.Stop.{Stop}
 use Rattle.limits.specs.declared.Budget.{Budget}
 use Rattle.limits.specs.declared.Billed.{Billed}
 use Rattle.limits.specs.declared.Billed.the-variants.{Paid, Stopped}
-use Rattle.limits.specs.declared.Refusal.the-variants.{Closed, Shape, Limit, Missing}
+use Rattle.limits.specs.declared.Refusal.the-variants.{Closed, Shape, Full, Limit, Missing}
+use Rattle.limits.specs.declared.Refusal.{Refusal}
 use Rattle.limits.specs.Refusal.{Told, told}
 use Rattle.limits.specs.Records.{fresh}
-use Rattle.limits.specs.Metered.{Run, going, stopped, Metered, pure, mapped, through}
-use Rattle.limits.specs.Budget.{ran, charge, work}
+use Rattle.limits.specs.Metered.{Run, going, stopped, Metered, pure, after, _>>=_, _>>_, mapped, through}
+use Rattle.limits.specs.Budget.{ran, charge, work, predicates, positions}
+use Rattle.limits.proofs.Monad.{then-on, then-stop}
+use Rattle.integers.proofs.Tests.{and-left, and-right}
+use Rattle.lattice.specs.Value.{Value}
+use Rattle.lattice.specs.Lattice.{bottom}
+use Rattle.rows.specs.Row.{row, put}
 use Rattle.store.specs.declared.Context.the-variants.{Some}
 use Rattle.store.specs.declared.Phase.{Phase}
 use Rattle.store.specs.declared.Phase.the-variants.{Open, Absent}
 use Rattle.store.specs.declared.Store.{Store}
 use Rattle.store.specs.declared.Done.{Done}
 use Rattle.store.specs.declared.Done.the-variants.{Ok, Refused}
-use Rattle.store.specs.Store.{admits, withBudget, withContext, empty, freshOf}
-use Rattle.store.specs.Calls.{charged, contextCall, workCall, firstOf, arityOf, argumentCall}
+use Rattle.store.specs.Store.{admits, withBudget, withContext, withPredicate, empty, freshOf}
+use Rattle.store.specs.Calls.{charged, declared, bottoms, roomFor, Tables, tables, inHeader, predicateCall, contextCall, workCall, firstOf, arityOf, argumentCall}
 use Rattle.store.specs.Answers.{done}
 
 -- ---- a fresh store
@@ -37,16 +44,45 @@ module _ (l : Limits) {b : Budget} (e : b ≡ fresh l) where
   pub fresh-wide : 16 < l .width → stopped (told Shape) (withBudget b (empty l Absent)) ≡ freshOf l
   fresh-wide h = rw (e, lt-leb (l .width) 16 h)
 
--- ---- a charge
+-- ---- what a call charges
 
-module _ (r : Resource) (amount : ℕ) (s : Store) {x : Billed} (h : ran x ≡ charge r amount (s .budget)) where
-  pub charge-paid : {b : Budget} {t : Store} → x ≡ Paid b → t ≡ withBudget b s → done (Ok t) ≡ charged (charge r amount) s
+module _ (m : Metered Stop Budget (Unit {0})) (s : Store) {x : Billed} (h : ran x ≡ m (s .budget)) where
+  pub charge-paid : {b : Budget} {t : Store} → x ≡ Paid b → t ≡ withBudget b s → done (Ok t) ≡ charged m s
   unfolding through mapped
   charge-paid p q = rw (q, ← h, p)
 
-  pub charge-stopped : {e : Stop} {b : Budget} {t : Store} → x ≡ Stopped e b → t ≡ withBudget b s → done (Refused (Limit e) t) ≡ charged (charge r amount) s
+  pub charge-stopped : {e : Stop} {b : Budget} {t : Store} → x ≡ Stopped e b → t ≡ withBudget b s → done (Refused (Limit e) t) ≡ charged m s
   unfolding through mapped
   charge-stopped p q = rw (q, ← h, p)
+
+module _ (arity : ℕ) (b : Budget) {x : Billed} (h : ran x ≡ predicates 1 b) where
+  pub declare-first : {e : Stop} {k : Budget} → x ≡ Stopped e k → ran (Stopped e b) ≡ declared arity b
+  unfolding declared through mapped _>>_ _>>=_ after
+  declare-first p = rw (← h, p)
+
+  module _ {b₁ : Budget} (p : x ≡ Paid b₁) {y : Billed} (i : ran y ≡ positions arity b₁) where
+    pub declare-second : {e : Stop} {k : Budget} → y ≡ Stopped e k → ran (Stopped e b) ≡ declared arity b
+    unfolding declared through mapped _>>_ _>>=_ after
+    declare-second q = rw (← h, p, ← i, q)
+
+    module _ {b₂ : Budget} (q : y ≡ Paid b₂) {z : Billed} (j : ran z ≡ work arity b₂) where
+      pub declare-third : {e : Stop} {k : Budget} → z ≡ Stopped e k → ran (Stopped e b) ≡ declared arity b
+      unfolding declared through mapped _>>_ _>>=_ after
+      declare-third r = rw (← h, p, ← i, q, ← j, r)
+
+      pub declare-all : {b₃ : Budget} → z ≡ Paid b₃ → ran (Paid b₃) ≡ declared arity b
+      unfolding declared through mapped _>>_ _>>=_ after
+      declare-all r = rw (← h, p, ← i, q, ← j, r)
+
+-- ---- seeds
+
+pub bottoms-more : (seeds cells : List ℕ) (from j : ℕ) {v : Value} {r : List ℕ} → cells ≡ bottoms seeds from j → v ≡ bottom → r ≡ put cells (from + j) v → r ≡ bottoms seeds from (j + 1)
+unfolding bottoms
+bottoms-more seeds cells from j p q e = rw (e, q, p, add-one)
+
+pub bottoms-none : (seeds : List ℕ) (from : ℕ) → seeds ≡ bottoms seeds from 0
+unfolding bottoms
+bottoms-none seeds from = refl
 
 -- ---- calls without tables
 
@@ -97,3 +133,86 @@ module _ (p i : ℕ) (rows : List ℕ) (s : Store) where
           pub argument-id : {first : ℕ} → i < arity → first ≡ firstOf rows p → going (first + i) s ≡ argumentCall p i rows s
           unfolding argumentCall pure
           argument-id g q = rw (eq-eqb (length rows) 128 n, ← h, o, lt-ltb p 64 e, lt-ltb p (s .counts .predicates) f, ← a, lt-ltb i arity g, q)
+
+-- ---- room for a predicate
+
+module _ (p n arity : ℕ) where
+  pub room-rows : 64 ≤ p → false ≡ roomFor p n arity
+  room-rows h = rw (le-ltb p 64 h)
+
+  pub room-over : p < 64 → 256 < n → false ≡ roomFor p n arity
+  room-over h k = rw (lt-ltb p 64 h, lt-leb (n + arity) 256 (omega arith))
+
+  pub room-is : p < 64 → n ≤ 256 → leb arity (256 - n) ≡ roomFor p n arity
+  room-is h k = rw (lt-ltb p 64 h) (go (leb arity (256 - n)) refl)
+    where
+      go : (t : Bool) → leb arity (256 - n) ≡ t → t ≡ leb (n + arity) 256
+      go true e = sym (le-leb (n + arity) 256 (omega (arith, leb-true arity (256 - n) e)))
+      go false e = sym (lt-leb (n + arity) 256 (omega (arith, leb-false arity (256 - n) e)))
+
+pub room-yes : (p n arity : ℕ) {t : Bool} → t ≡ roomFor p n arity → t ≡ true → (p < 64) × (n + arity ≤ 256)
+room-yes p n arity q e =
+    let h : roomFor p n arity ≡ true = sym q ∙ e in
+    (ltb-true p 64 (and-left (ltb p 64) (leb (n + arity) 256) h), leb-true (n + arity) 256 (and-right (ltb p 64) (leb (n + arity) 256) h))
+
+-- ---- a predicate
+
+-- charges leave the counts of rows as they were
+pub charged-counts : (m : Metered Stop Budget (Unit {0})) (s : Store) {t : Store} → going tt t ≡ charged m s → t .counts ≡ s .counts
+unfolding through mapped
+charged-counts m s {t} = go (m (s .budget))
+  where
+    go : (x : Run Stop Budget (Unit {0})) → going tt t ≡ mapped (λ u. u) (λ u. u) (λ e. told (Limit e)) (mapped (λ b. withBudget b s) (λ b. withBudget b s) (λ e. e) x) → t .counts ≡ s .counts
+    go (going u b) h = let e : t ≡ withBudget b s = cc in rw e
+    go (stopped e b) h = let z : _≡_ {A = ℕ} 0 1 = cc in absurd (omega arith)
+
+-- a step on the header, with the tables beside it
+module _ (m : Metered Told Store (Unit {0})) (s : Store) {rows seeds : List ℕ} where
+  zoomed-on : {u : Store} → going tt u ≡ m s → going tt (tables u rows seeds) ≡ inHeader m (tables s rows seeds)
+  unfolding through mapped
+  zoomed-on h = rw (← h)
+
+  zoomed-stop : {e : Told} {u : Store} → stopped e u ≡ m s → stopped e (tables u rows seeds) ≡ inHeader m (tables s rows seeds)
+  unfolding through mapped
+  zoomed-stop h = rw (← h)
+
+module _ (arity : ℕ) (s : Store) (rows seeds : List ℕ) where
+  pub predicate-rows : (length rows ≡ 128 → ⊥) → stopped (told Shape) (tables s rows seeds) ≡ predicateCall arity (tables s rows seeds)
+  unfolding predicateCall
+  predicate-rows n = rw (ne-eqb (length rows) 128 n)
+
+  module _ (n : length rows ≡ 128) where
+    pub predicate-seeds : (length seeds ≡ row * 256 → ⊥) → stopped (told Shape) (tables s rows seeds) ≡ predicateCall arity (tables s rows seeds)
+    unfolding predicateCall
+    predicate-seeds k = rw (eq-eqb (length rows) 128 n, ne-eqb (length seeds) (row * 256) k)
+
+    module _ (k : length seeds ≡ row * 256) {t : Bool} (h : t ≡ admits (s .phase)) where
+      pub predicate-closed : t ≡ false → stopped (told Closed) (tables s rows seeds) ≡ predicateCall arity (tables s rows seeds)
+      unfolding predicateCall
+      predicate-closed e = rw (eq-eqb (length rows) 128 n, eq-eqb (length seeds) (row * 256) k, ← h, e)
+
+      module _ (o : t ≡ true) {f : Bool} (q : f ≡ roomFor (s .counts .predicates) (s .counts .positions) arity) where
+        pub predicate-full : f ≡ false → stopped (told Full) (tables s rows seeds) ≡ predicateCall arity (tables s rows seeds)
+        unfolding predicateCall
+        predicate-full e = rw (eq-eqb (length rows) 128 n, eq-eqb (length seeds) (row * 256) k, ← h, o, ← q, e)
+
+        module _ (y : f ≡ true) where
+          pub predicate-work : (r : Refusal) {u : Store} → stopped (told r) u ≡ charged (work 1) s → stopped (told r) (tables u rows seeds) ≡ predicateCall arity (tables s rows seeds)
+          unfolding predicateCall
+          predicate-work r p = rw (eq-eqb (length rows) 128 n, eq-eqb (length seeds) (row * 256) k, ← h, o, ← q, y) (then-stop _ _ _ (zoomed-stop (charged (work 1)) s p))
+
+          module _ {u : Store} (p : going tt u ≡ charged (work 1) s) where
+            pub predicate-declare : (r : Refusal) {v : Store} → stopped (told r) v ≡ charged (declared arity) u → stopped (told r) (tables v rows seeds) ≡ predicateCall arity (tables s rows seeds)
+            unfolding predicateCall
+            predicate-declare r d =
+                rw (eq-eqb (length rows) 128 n, eq-eqb (length seeds) (row * 256) k, ← h, o, ← q, y)
+                (then-on _ _ _ (zoomed-on (charged (work 1)) s p) (then-stop _ _ _ (zoomed-stop (charged (declared arity)) u d)))
+
+            pub predicate-id : {v w : Store} {rows₁ rows₂ seeds′ : List ℕ} → going tt v ≡ charged (declared arity) u → w ≡ withPredicate arity v →
+                rows₁ ≡ set rows (2 * s .counts .predicates) (s .counts .positions) → rows₂ ≡ set rows₁ (2 * s .counts .predicates + 1) arity →
+                seeds′ ≡ bottoms seeds (s .counts .positions) arity → going (s .counts .predicates) (tables w rows₂ seeds′) ≡ predicateCall arity (tables s rows seeds)
+            unfolding predicateCall
+            predicate-id {v} {w} {rows₁} {rows₂} {seeds′} d e r₁ r₂ g =
+                let c : v .counts ≡ s .counts = charged-counts (declared arity) u d ∙ charged-counts (work 1) s p in
+                rw (eq-eqb (length rows) 128 n, eq-eqb (length seeds) (row * 256) k, ← h, o, ← q, y)
+                (then-on _ _ _ (zoomed-on (charged (work 1)) s p) (then-on _ _ _ (zoomed-on (charged (declared arity)) u d) (rw (e, r₂, r₁, g, c, add-one (2 * s .counts .predicates)))))

@@ -1,5 +1,5 @@
 -- The header of a store: which calls a phase admits, and the header with one part changed. Headers are made in this file alone.
-use Prim.Native.Nat.{ℕ}
+use Prim.Native.Nat.{ℕ, _+_}
 use mathlib.Core.Bool.{Bool, true, false, cond}
 use lib.Dec.{leb}
 use Rattle.limits.specs.declared.Limits.{Limits}
@@ -27,6 +27,24 @@ withBudget b s = record { budget = b; counts = s .counts; context = s .context; 
 
 abbrev pub withContext : Context → Store → Store
 withContext c s = record { budget = s .budget; counts = s .counts; context = c; phase = s .phase }
+
+-- one predicate more, and as many positions as its arity
+abbrev pub withPredicate : ℕ → Store → Store
+withPredicate arity s = record {
+  budget = s .budget;
+  counts = record {
+    predicates = s .counts .predicates + 1;
+    positions = s .counts .positions + arity;
+    constants = s .counts .constants;
+    keys = s .counts .keys;
+    expressions = s .counts .expressions;
+    rules = s .counts .rules;
+    thresholds = s .counts .thresholds;
+    provenance = s .counts .provenance;
+  };
+  context = s .context;
+  phase = s .phase;
+}
 
 abbrev pub nothing : Counts
 nothing = record { predicates = 0; positions = 0; constants = 0; keys = 0; expressions = 0; rules = 0; thresholds = 0; provenance = 0 }

@@ -1,5 +1,6 @@
 //! The store's header and its first calls (input.rs): a fresh store, `context`, `work`, `predicate` and `argument`. The header goes in by
 //! value and comes back beside the answer; tables are lent. Every call holds for any header and any contents.
+use lattice::Abstract;
 use limits::Billed;
 use limits::Budget;
 use limits::Limits;
@@ -7,10 +8,11 @@ use limits::Refusal;
 use limits::Resource;
 use limits::Stop;
 ghost use mathlib.Core.Path.{_≡_};
-ghost use Rattle.limits.specs.Budget.{charge};
-ghost use Rattle.store.specs.Store.{freshOf, admits, withBudget};
-ghost use Rattle.store.specs.Calls.{charged, contextCall, workCall, argumentCall};
-ghost use Rattle.store.specs.Answers.{done, answered};
+ghost use Prim.Native.Nat.{_+_, _≤_};
+ghost use Rattle.limits.specs.Budget.{ran, charge};
+ghost use Rattle.store.specs.Store.{freshOf, admits, withBudget, withPredicate};
+ghost use Rattle.store.specs.Calls.{charged, contextCall, workCall, declared, bottoms, roomFor, tables, predicateCall, argumentCall};
+ghost use Rattle.store.specs.Answers.{done, answered, onTables};
 
 // The caller's context, if one is set.
 pub enum Context {
@@ -61,6 +63,47 @@ pub enum Answer {
 pub const PREDICATES: usize = 64;
 
 pub const POSITIONS: usize = 256;
+
+// Whether the tables have room for one predicate more.
+fn room(predicates: usize, positions: usize, arity: u64) -> bool
+    ensures { λ r. ⌜ r ≡ roomFor predicates positions arity ⌝ }
+{
+    if PREDICATES <= predicates {
+        return false;
+    }
+    if POSITIONS < positions {
+        return false;
+    }
+    arity <= (POSITIONS - positions) as u64
+}
+
+// The charges of a new predicate beside its first unit of work: all of them or none.
+fn declare(budget: Budget, arity: u64) -> Billed
+    ensures { λ r. ⌜ ran r ≡ declared arity budget ⌝ }
+{
+    match budget.charge(Resource::Predicates, 1) {
+        Billed::Stopped(stop, _) => Billed::Stopped(stop, budget),
+        Billed::Paid(one) => match one.charge(Resource::Positions, arity) {
+            Billed::Stopped(stop, _) => Billed::Stopped(stop, budget),
+            Billed::Paid(two) => match two.charge(Resource::Work, arity) {
+                Billed::Stopped(stop, _) => Billed::Stopped(stop, budget),
+                Billed::Paid(three) => Billed::Paid(three),
+            },
+        },
+    }
+}
+
+// Rows of seeds that nothing is seeded to.
+fn clear_seeds(seeds: &mut [u32], from: usize, count: usize)
+    requires { ⌜ (from + count ≤ 256) ⌝ }
+    ensures { λ _. ⌜ now (seeds .exit) ≡ bottoms (now (seeds .entry)) from count ⌝ }
+{
+    let mut j: usize = 0;
+    while j < count {
+        rows::put_abstract(seeds, from + j, Abstract::bottom());
+        j = j + 1;
+    }
+}
 
 impl Phase {
     // Whether the phase admits the calls that build a store, and the run.
@@ -191,5 +234,71 @@ impl Store {
             return Answer::Refused(Refusal::Missing, self);
         }
         Answer::Id((start + position) as usize, self)
+    }
+
+    // The charges of a new predicate beside its first unit of work.
+    fn declare(self, arity: u64) -> Done
+        ensures { λ r. ⌜ done r ≡ charged (declared arity) self ⌝ }
+    {
+        let budget = self.budget;
+        match declare(budget, arity) {
+            Billed::Paid(paid) => Done::Ok(self.with_budget(paid)),
+            Billed::Stopped(stop, kept) => {
+                Done::Refused(Refusal::Limit(stop), self.with_budget(kept))
+            }
+        }
+    }
+
+    // One predicate more, of this arity.
+    fn with_predicate(self, arity: usize) -> Store
+        requires { ⌜ (self .counts .predicates ≤ 64) × (self .counts .positions + arity ≤ 256) ⌝ }
+        ensures { λ r. ⌜ r ≡ withPredicate arity self ⌝ }
+    {
+        let budget = self.budget;
+        let mut counts = self.counts;
+        let context = self.context;
+        let phase = self.phase;
+        counts.predicates = counts.predicates + 1;
+        counts.positions = counts.positions + arity;
+        Store {
+            budget,
+            counts,
+            context,
+            phase,
+        }
+    }
+
+    // A new predicate: its id.
+    pub fn predicate(self, arity: u64, predicates: &mut [u32], seeds: &mut [u32]) -> Answer
+        ensures { λ r. ⌜ onTables r (now (predicates .exit)) (now (seeds .exit)) ≡ predicateCall arity (tables self (now (predicates .entry)) (now (seeds .entry))) ⌝ }
+    {
+        let phase = self.phase;
+        let counts = self.counts;
+        let id = counts.predicates;
+        let start = counts.positions;
+        if predicates.len() != 2 * PREDICATES {
+            return Answer::Refused(Refusal::Shape, self);
+        }
+        if seeds.len() != rows::ROW * POSITIONS {
+            return Answer::Refused(Refusal::Shape, self);
+        }
+        if !phase.admits() {
+            return Answer::Refused(Refusal::Closed, self);
+        }
+        if !room(id, start, arity) {
+            return Answer::Refused(Refusal::Full, self);
+        }
+        match self.charge(Resource::Work, 1) {
+            Done::Refused(refusal, kept) => Answer::Refused(refusal, kept),
+            Done::Ok(paid) => match paid.declare(arity) {
+                Done::Refused(refusal, kept) => Answer::Refused(refusal, kept),
+                Done::Ok(declared) => {
+                    cells::put_cell(predicates, 2 * id, start as u32);
+                    cells::put_cell(predicates, 2 * id + 1, arity as u32);
+                    clear_seeds(seeds, start, arity as usize);
+                    Answer::Id(id, declared.with_predicate(arity as usize))
+                }
+            },
+        }
     }
 }

@@ -1,71 +1,53 @@
-use borrow.Author.Tests.{not-true, not-false}
-use Rattle.store.proofs.CodeLaws.{argument-shape, argument-closed, argument-beyond, argument-missing, argument-outside, argument-id}
-use borrow.Author.Needs.{needs}
+-- `store::Store::argument` meets its contract.
 use native.Mathlib.Omega.{arith}
+use borrow.Author.Tests.{not-true, not-false}
+use borrow.Author.Needs.{needs}
+use Rattle.store.proofs.CodeLaws.{argument-shape, argument-closed, argument-beyond, argument-missing, argument-outside, argument-id}
 use Rattle.store.proofs.Store.argument.Statement.{statement}
 use Rattle.store.proofs.Store.argument.Tie as tie
-use Rattle.store.proofs.Store.argument.Reads as reads
-use Rattle.store.proofs.Store.argument.Lts as lts
-use Rattle.cells.proofs.cell_at.Reads as cell-at-reads
-use Rattle.store.proofs.Phase.admits.Reads as admits-reads
 
--- src/lib.rt:175:32
 mul-if1 : tie.Need-mul-if1
 mul-if1 c = search needs
 
--- src/lib.rt:176:13
 returns : tie.Need-returns
 returns c = argument-shape (c .before .before .before .args .predicate) (c .before .before .before .args .position) (c .before .before .before .args .predicates .now) (c .before .before .before .args .self) (c .if1 .taken)
 
--- src/lib.rt:178:13
 admits-requires : tie.Need-admits-requires
 admits-requires c κs = search needs
 
--- src/lib.rt:179:13
 returns-2 : tie.Need-returns-2
 returns-2 c = argument-closed (c .before .before .before .before .before .args .predicate) (c .before .before .before .before .before .args .position) (c .before .before .before .before .before .args .predicates .now) (c .before .before .before .before .before .args .self) (c .before .before .if1 .left) (c .before .admits .ensures) (not-true _ (c .if2 .taken))
 
--- src/lib.rt:182:13
 returns-3 : tie.Need-returns-3
 returns-3 c = argument-beyond (c .before .before .before .before .before .before .args .predicate) (c .before .before .before .before .before .before .args .position) (c .before .before .before .before .before .before .args .predicates .now) (c .before .before .before .before .before .before .args .self) (c .before .before .before .if1 .left) (c .before .before .admits .ensures) (not-false _ (c .before .if2 .left)) (c .if3 .taken)
 
--- src/lib.rt:185:13
 returns-4 : tie.Need-returns-4
 returns-4 c = argument-missing (c .before .before .before .before .before .before .before .before .args .predicate) (c .before .before .before .before .before .before .before .before .args .position) (c .before .before .before .before .before .before .before .before .args .predicates .now) (c .before .before .before .before .before .before .before .before .args .self) (c .before .before .before .before .before .if1 .left) (c .before .before .before .before .admits .ensures) (not-false _ (c .before .before .before .if2 .left)) (omega (arith, c .before .before .if3 .left)) (c .if4 .taken)
 
--- src/lib.rt:187:19
 mul-row : tie.Need-mul-row
 mul-row c = search needs
 
--- src/lib.rt:188:21
 cell-at-requires : tie.Need-cell-at-requires
 cell-at-requires c κs = search needs
 
--- src/lib.rt:188:21
 cast-start : tie.Need-cast-start
 cast-start c = search needs
 
--- src/lib.rt:189:48
 add-cell-at : tie.Need-add-cell-at
 add-cell-at c = search needs
 
--- src/lib.rt:189:21
 cell-at-requires-2 : tie.Need-cell-at-requires-2
 cell-at-requires-2 c κs = search needs
 
--- src/lib.rt:189:21
 cast-arity : tie.Need-cast-arity
 cast-arity c = search needs
 
--- src/lib.rt:191:13
 returns-5 : tie.Need-returns-5
 returns-5 c = argument-outside (c .before .before .before .before .before .before .before .before .before .before .before .args .predicate) (c .before .before .before .before .before .before .before .before .before .before .before .args .position) (c .before .before .before .before .before .before .before .before .before .before .before .args .predicates .now) (c .before .before .before .before .before .before .before .before .before .before .before .args .self) (c .before .before .before .before .before .before .before .before .if1 .left) (c .before .before .before .before .before .before .before .admits .ensures) (not-false _ (c .before .before .before .before .before .before .if2 .left)) (omega (arith, c .before .before .before .before .before .if3 .left)) (omega (arith, c .before .before .before .if4 .left)) (c .before .cell-at2 .ensures) (c .if5 .taken)
 
--- src/lib.rt:193:21
 add-t20 : tie.Need-add-t20
 add-t20 c = search needs
 
--- src/lib.rt:170:5
 returns-6 : tie.Need-returns-6
 returns-6 c = argument-id (c .before .before .before .before .before .before .before .before .before .before .before .args .predicate) (c .before .before .before .before .before .before .before .before .before .before .before .args .position) (c .before .before .before .before .before .before .before .before .before .before .before .args .predicates .now) (c .before .before .before .before .before .before .before .before .before .before .before .args .self) (c .before .before .before .before .before .before .before .before .if1 .left) (c .before .before .before .before .before .before .before .admits .ensures) (not-false _ (c .before .before .before .before .before .before .if2 .left)) (omega (arith, c .before .before .before .before .before .if3 .left)) (omega (arith, c .before .before .before .if4 .left)) (c .before .cell-at2 .ensures) (omega (arith, c .if5 .left)) (c .before .before .cell-at .ensures)
 

@@ -1,21 +1,15 @@
-use Rattle.store.proofs.CodeLaws.{context-set, context-closed}
+-- `store::Store::context` meets its contract.
 use borrow.Author.Needs.{needs}
-use native.Mathlib.Omega.{arith}
+use Rattle.store.proofs.CodeLaws.{context-set, context-closed}
 use Rattle.store.proofs.Store.context.Statement.{statement}
 use Rattle.store.proofs.Store.context.Tie as tie
-use Rattle.store.proofs.Store.context.Reads as reads
-use Rattle.store.proofs.Store.context.Lts as lts
-use Rattle.store.proofs.Phase.admits.Reads as admits-reads
 
--- src/lib.rt:117:12
 admits-requires : tie.Need-admits-requires
 admits-requires c κs = search needs
 
--- src/lib.rt:120:13
 returns : tie.Need-returns
 returns c = context-set (c .before .before .before .before .args .self) (c .before .before .before .admits .ensures) (c .before .before .before .before .args .context) (c .before .before .if1 .taken)
 
--- src/lib.rt:113:5
 returns-2 : tie.Need-returns-2
 returns-2 c = context-closed (c .before .before .args .self) (c .before .admits .ensures) (c .before .before .args .context) (c .if1 .left)
 
