@@ -2,14 +2,14 @@
 use Prim.Native.Nat.{ℕ, zero, suc, _+_, _-_, _/_, _≤_, _<_}
 use native.Mathlib.Omega.{arith}
 use native.Mathlib.Decide.{decLt}
-use mathlib.Core.Path.{_≡_, refl, subst}
+use mathlib.Core.Path.{_≡_, refl, sym, subst}
 use mathlib.Core.Bool.{Bool, true, false, cond}
 use borrow.Author.Tests.{ltb-true, ltb-false}
 use lib.Dec.{ltb}
 use Rattle.limits.specs.declared.Stop.{Stop}
-use Rattle.limits.specs.Metered.{Metered, pure, _>>_}
+use Rattle.limits.specs.Metered.{going, Metered, pure, _>>_}
 use Rattle.limits.specs.Meter.{Meter, work}
-use Rattle.limits.proofs.Monad.{Ensures, by-pure, by-test, then, Steady, steady-pure, steady-unit, steady-test, steady-then}
+use Rattle.limits.proofs.Monad.{Holds, Ensures, weaken, by-pure, by-test, then, Steady, steady-pure, steady-unit, steady-test, steady-then}
 use Rattle.search.specs.declared.Ordering.{Ordering}
 use Rattle.search.specs.declared.Ordering.the-variants.{Less, Equal, Greater}
 use Rattle.search.specs.Seek.{Place, found, absent, by, middle, seek}
@@ -78,3 +78,30 @@ steady-seek probe (suc f) low high =
     steady-then (steady-unit (work 1))
     (steady-by (probe (middle low high)) (steady-seek probe f (middle low high + 1) high) (steady-pure (found (middle low high))) (steady-seek probe f low (middle low high))))
     (λ _. steady-pure (absent low))
+
+-- ---- a search ends within the table, in order or not
+
+abbrev pub Within : ℕ → Place → Type 0
+Within n (found i) = i < n
+Within n (absent i) = i ≤ n
+
+wider : {m n : ℕ} → m ≤ n → (p : Place) → Within m p → Within n p
+wider h (found i) k = omega arith
+wider h (absent i) k = omega arith
+
+pub seek-within : (probe : ℕ → Ordering) (f low high : ℕ) → low ≤ high → Ensures (Within high) (seek probe f low high)
+unfolding seek
+seek-within probe zero low high h = by-pure (absent low) h
+seek-within probe (suc f) low high h =
+    by-test (ltb low high)
+    (λ e.
+    let z : low < high = ltb-true low high e in
+    then (work 1)
+    (by-ordering (probe (middle low high))
+    (λ _. seek-within probe f (middle low high + 1) high (omega arith))
+    (λ _. by-pure (found (middle low high)) (omega arith))
+    (λ _. weaken (λ p. wider (omega arith) p) (seek-within probe f low (middle low high) (omega arith)))))
+    (λ _. by-pure (absent low) h)
+
+pub absent-within : (probe : ℕ → Ordering) (n : ℕ) (m : Meter) {i : ℕ} {m′ : Meter} → going (absent i) m′ ≡ seek probe n 0 n m → i ≤ n
+absent-within probe n m e = subst (Holds (Within n)) (sym e) (seek-within probe n 0 n (omega arith) .at m)

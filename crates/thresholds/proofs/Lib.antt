@@ -1,0 +1,3 @@
+pub mod Shifting
+pub mod CodeLaws
+pub mod Outcomes

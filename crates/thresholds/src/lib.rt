@@ -1,0 +1,156 @@
+//! Thresholds (`threshold` and `thresholds` of numeric/input.rs): the numbers at which bounds are widened, in a lent table, sorted.
+use limits::Billed;
+use limits::Budget;
+use limits::Charged;
+use limits::Resource;
+use limits::Stop;
+ghost use mathlib.Core.Path.{_≡_};
+ghost use Prim.Native.Nat.{_+_, _≤_, _<_};
+ghost use lib.ListN.{length};
+ghost use lib.IntN.{pos, _+ℤ_, _-ℤ_};
+ghost use Rattle.limits.specs.declared.Resource.the-variants.{Work};
+ghost use Rattle.limits.specs.Records.{withCount, withStatistics};
+ghost use Rattle.limits.specs.Budget.{ran};
+ghost use Rattle.thresholds.specs.Thresholds.{entry, against, inserted, cost, enter, enterNumber, around};
+ghost use Rattle.thresholds.specs.Answers.{Seeks, entered};
+
+// Where a number stands or would stand, with the work after the search.
+pub enum Sought {
+    Found(usize, u64),
+    Absent(usize, u64),
+    Stopped(Stop, u64),
+}
+
+// What is left: the budget, and how many thresholds stand.
+pub enum Entered {
+    Done(Budget, usize),
+    Stopped(Stop, Budget, usize),
+}
+
+// Binary search among the first `count` cells.
+pub fn seek_number(table: &[i32], count: usize, value: i32, work: u64, max_work: u64) -> Sought
+    requires { ⌜ count ≤ length (now table) ⌝ }
+    ensures { λ r. ⌜ Seeks (against (now (table .entry)) value) count work «max_work» r ⌝ }
+{
+    let mut low: usize = 0;
+    let mut high = count;
+    let mut spent = work;
+    while low < high {
+        match limits::charge(Resource::Work, spent, 1, max_work) {
+            Charged::Stopped(stop, now) => {
+                return Sought::Stopped(stop, now);
+            }
+            Charged::Paid(now) => {
+                spent = now;
+            }
+        }
+        let middle = low + (high - low) / 2;
+        let x = table[middle];
+        if x < value {
+            low = middle + 1;
+        } else {
+            if x == value {
+                return Sought::Found(middle, spent);
+            }
+            high = middle;
+        }
+    }
+    Sought::Absent(low, spent)
+}
+
+// The cells from `at` up to `count` go one place up, and the value stands at `at`.
+pub fn insert_number(table: &mut [i32], at: usize, count: usize, value: i32)
+    requires { ⌜ (at ≤ count) × (count < length (now table)) ⌝ }
+    ensures { λ _. ⌜ now (table .exit) ≡ inserted (now (table .entry)) at count value ⌝ }
+{
+    let mut i = at;
+    let mut carry = value;
+    while i <= count {
+        let x = table[i];
+        table[i] = carry;
+        carry = x;
+        i += 1;
+    }
+}
+
+// The same budget with this much work.
+fn with_work(budget: Budget, work: u64) -> Budget
+    ensures { λ r. ⌜ r ≡ withStatistics (withCount Work work (budget .statistics)) budget ⌝ }
+{
+    let limits = budget.limits;
+    let statistics = budget.statistics;
+    Budget {
+        limits,
+        statistics: statistics.with(Resource::Work, work),
+    }
+}
+
+// What a new threshold costs: the cells that move and its own, and a link.
+fn pay(budget: Budget, cells: u64) -> Billed
+    ensures { λ r. ⌜ ran r ≡ cost cells budget ⌝ }
+{
+    match budget.charge(Resource::Work, cells) {
+        Billed::Stopped(stop, b) => Billed::Stopped(stop, b),
+        Billed::Paid(b) => b.charge(Resource::Links, 1),
+    }
+}
+
+// `threshold`: the value stands in the table once, in its place.
+pub fn enter(table: &mut [i32], count: usize, value: i32, budget: Budget) -> Entered
+    requires { ⌜ count < length (now table) ⌝ }
+    ensures { λ r. ⌜ entered r (now (table .exit)) ≡ enter value (entry budget count (now (table .entry))) ⌝ }
+{
+    let limits = budget.limits;
+    let statistics = budget.statistics;
+    match seek_number(table, count, value, statistics.work, limits.work) {
+        Sought::Found(_, work) => Entered::Done(with_work(budget, work), count),
+        Sought::Stopped(stop, work) => Entered::Stopped(stop, with_work(budget, work), count),
+        Sought::Absent(low, work) => {
+            let more = count + 1;
+            let cells = (count - low + 1) as u64;
+            match pay(with_work(budget, work), cells) {
+                Billed::Stopped(stop, b) => Entered::Stopped(stop, b, count),
+                Billed::Paid(b) => {
+                    insert_number(table, low, count, value);
+                    Entered::Done(b, more)
+                }
+            }
+        }
+    }
+}
+
+// One less, if it is a number of 32 bits.
+fn enter_below(table: &mut [i32], count: usize, value: i32, budget: Budget) -> Entered
+    requires { ⌜ count < length (now table) ⌝ }
+    ensures { λ r. ⌜ entered r (now (table .exit)) ≡ enterNumber (value -ℤ pos 1) (entry budget count (now (table .entry))) ⌝ }
+{
+    if value == -2147483648 {
+        return Entered::Done(budget, count);
+    }
+    enter(table, count, value - 1, budget)
+}
+
+// One more, if it is a number of 32 bits.
+fn enter_above(table: &mut [i32], count: usize, value: i32, budget: Budget) -> Entered
+    requires { ⌜ count < length (now table) ⌝ }
+    ensures { λ r. ⌜ entered r (now (table .exit)) ≡ enterNumber (value +ℤ pos 1) (entry budget count (now (table .entry))) ⌝ }
+{
+    if value == 2147483647 {
+        return Entered::Done(budget, count);
+    }
+    enter(table, count, value + 1, budget)
+}
+
+// `thresholds`: the value and its neighbours.
+pub fn enter_around(table: &mut [i32], count: usize, value: i32, budget: Budget) -> Entered
+    requires { ⌜ count + 3 ≤ length (now table) ⌝ }
+    ensures { λ r. ⌜ entered r (now (table .exit)) ≡ around value (entry budget count (now (table .entry))) ⌝ }
+{
+    match enter_below(table, count, value, budget) {
+        Entered::Stopped(stop, b, n) => Entered::Stopped(stop, b, n),
+        Entered::Done(b, n) => match enter(table, n, value, b) {
+            Entered::Stopped(stop, c, m) => Entered::Stopped(stop, c, m),
+            Entered::Done(c, m) => enter_above(table, m, value, c),
+        },
+    }
+}
