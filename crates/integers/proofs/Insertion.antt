@@ -24,14 +24,14 @@ module _ {A : Type 0} where
   unfolding inserted
   next z l i count v h = elim (decLt i (length l)) [
     | yes k ↦
-      let e : i + 1 ≡ suc i = omega arith in
-      let n : count - i ≡ suc (count - suc i) = omega arith in
-      rw (e, n, drop-cons l i z k, drop-set-lt (suc i) l i v (omega arith))
+        let e : i + 1 ≡ suc i = omega arith in
+        let n : count - i ≡ suc (count - suc i) = omega arith in
+        rw (e, n, drop-cons l i z k, drop-set-lt (suc i) l i v (omega arith))
     | no k ↦
-      let e : i + 1 ≡ suc i = omega arith in
-      rw e
-      (sets-out (take (count - i) (drop i l)) (set l i v) (suc i) (simp length-set (omega arith))
-      ∙ sym (sets-out (getD l i z ∷ take (count - suc i) (drop (suc i) (set l i v))) (set l i v) (suc i) (simp length-set (omega arith))))
+        let e : i + 1 ≡ suc i = omega arith in
+        rw e
+        (sets-out (take (count - i) (drop i l)) (set l i v) (suc i) (simp length-set (omega arith))
+        ∙ sym (sets-out (getD l i z ∷ take (count - suc i) (drop (suc i) (set l i v))) (set l i v) (suc i) (simp length-set (omega arith))))
   ]
 
   module _ {r l : List A} {i count : ℕ} {v : A} (p : Inserting r l i count v) where

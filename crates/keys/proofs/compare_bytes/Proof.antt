@@ -1,13 +1,12 @@
-use Prim.Native.Nat.{ℕ, _+_, _-_, _≤_}
+-- `keys::compare_bytes` meets its contract.
+use Prim.Native.Nat.{_-_, _≤_}
+use native.Mathlib.Omega.{arith}
 use lib.ListN.{length}
+use borrow.Author.Needs.{needs}
 use Rattle.keys.specs.Key.{compareBytes}
 use Rattle.keys.proofs.CodeLaws.{Comparing, comparing, bytes-less, bytes-greater, bytes-more, bytes-longer, bytes-shorter, bytes-equal}
-use borrow.Author.Needs.{needs}
-use native.Mathlib.Omega.{arith}
 use Rattle.keys.proofs.compare_bytes.Statement.{statement}
 use Rattle.keys.proofs.compare_bytes.Tie as tie
-use Rattle.keys.proofs.compare_bytes.Reads as reads
-use Rattle.keys.proofs.compare_bytes.Lts as lts
 
 abbrev Inv-loop : tie.InvT-loop
 Inv-loop a b i₀ i = (i ≤ length a) × (i ≤ length b) × Comparing (compareBytes a b) a b i
@@ -15,47 +14,36 @@ Inv-loop a b i₀ i = (i ≤ length a) × (i ≤ length b) × Comparing (compare
 abbrev μ-loop : tie.MeasureT-loop
 μ-loop a b i₀ i = length a - i
 
--- src/lib.rt:37:5
 loop-holds : tie.Need-loop-holds Inv-loop μ-loop
 loop-holds c = (omega arith, omega arith, comparing _ _)
 
--- src/lib.rt:39:13
 returns : tie.Need-returns Inv-loop μ-loop
 returns c = bytes-longer (c .before .before .loop .inv .2) (omega arith) (omega arith)
 
--- src/lib.rt:41:17
 shared-slice-read-x : tie.Need-shared-slice-read-x Inv-loop μ-loop
 shared-slice-read-x c = search needs
 
--- src/lib.rt:42:17
 shared-slice-read-y : tie.Need-shared-slice-read-y Inv-loop μ-loop
 shared-slice-read-y c = search needs
 
--- src/lib.rt:44:13
 returns-2 : tie.Need-returns-2 Inv-loop μ-loop
 returns-2 c = bytes-less (c .before .before .before .before .before .loop .inv .2) (omega arith) (omega arith) (c .if2 .taken)
 
--- src/lib.rt:47:13
 returns-3 : tie.Need-returns-3 Inv-loop μ-loop
 returns-3 c = bytes-greater (c .before .before .before .before .before .before .loop .inv .2) (omega arith) (omega arith) (c .if3 .taken)
 
--- src/lib.rt:49:9
 add-i : tie.Need-add-i Inv-loop μ-loop
 add-i c = search needs
 
--- src/lib.rt:37:5
 loop-less : tie.Need-loop-less Inv-loop μ-loop
 loop-less c = omega arith
 
--- src/lib.rt:37:5
 loop-again : tie.Need-loop-again Inv-loop μ-loop
 loop-again c = (omega arith, omega arith, bytes-more (c .before .before .before .before .before .before .loop .inv .2) (omega arith) (omega arith) (c .before .if2 .left) (c .if3 .left))
 
--- src/lib.rt:33:1
 returns-4 : tie.Need-returns-4 Inv-loop μ-loop
 returns-4 c = bytes-shorter (c .before .before .loop .inv .2) (omega arith) (omega arith)
 
--- src/lib.rt:33:1
 returns-5 : tie.Need-returns-5 Inv-loop μ-loop
 returns-5 c = bytes-equal (c .before .before .loop .inv .2) (omega arith) (omega arith)
 

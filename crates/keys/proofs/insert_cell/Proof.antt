@@ -1,16 +1,13 @@
-use Prim.Native.Nat.{ℕ, _+_, _-_, _≤_}
-use lib.ListN.{length}
+-- `keys::insert_cell` meets its contract.
+use Prim.Native.Nat.{_-_}
+use native.Mathlib.Omega.{arith}
 use mathlib.Core.Path.{_≡_, refl, _∙_}
+use lib.ListN.{length}
+use borrow.Author.Needs.{needs}
 use Rattle.integers.specs.Lists.{inserted}
 use Rattle.integers.proofs.Insertion.{Inserting, inserting, inserting-more, inserting-last}
-use borrow.Author.Needs.{needs}
-use native.Mathlib.Omega.{arith}
 use Rattle.keys.proofs.insert_cell.Statement.{statement}
 use Rattle.keys.proofs.insert_cell.Tie as tie
-use Rattle.keys.proofs.insert_cell.Reads as reads
-use Rattle.keys.proofs.insert_cell.Lts as lts
-use Rattle.cells.proofs.cell_at.Reads as cell-at-reads
-use Rattle.cells.proofs.put_cell.Reads as put-cell-reads
 
 abbrev Inv-loop : tie.InvT-loop
 Inv-loop order₀ at count id i₀ carry₀ order i carry = (length order ≡ length order₀) × Inserting (inserted order₀ at count id) order i count carry
@@ -18,39 +15,30 @@ Inv-loop order₀ at count id i₀ carry₀ order i carry = (length order ≡ le
 abbrev μ-loop : tie.MeasureT-loop
 μ-loop order₀ at count id i₀ carry₀ order i carry = count - i
 
--- src/lib.rt:203:5
 loop-holds : tie.Need-loop-holds Inv-loop μ-loop
 loop-holds c = (refl, inserting _ _ _ _)
 
--- src/lib.rt:204:13
 cell-at-requires : tie.Need-cell-at-requires Inv-loop μ-loop
 cell-at-requires c κs = search needs
 
--- src/lib.rt:205:9
 put-cell-requires : tie.Need-put-cell-requires Inv-loop μ-loop
 put-cell-requires c κs = search needs
 
--- src/lib.rt:207:9
 add-i : tie.Need-add-i Inv-loop μ-loop
 add-i c = search needs
 
--- src/lib.rt:203:5
 loop-less : tie.Need-loop-less Inv-loop μ-loop
 loop-less c = omega arith
 
--- src/lib.rt:203:5
 loop-again : tie.Need-loop-again Inv-loop μ-loop
 loop-again c = (c .before .order .given ∙ c .before .before .before .before .before .before .before .loop .inv .0, inserting-more (c .before .before .before .before .before .before .before .loop .inv .1) 0 (omega arith) (c .before .before .before .before .cell-at .ensures) (c .before .before .put-cell .ensures))
 
--- src/lib.rt:209:5
 put-cell-requires-2 : tie.Need-put-cell-requires-2 Inv-loop μ-loop
 put-cell-requires-2 c κs = search needs
 
--- src/lib.rt:198:1
 same-length : tie.Need-same-length Inv-loop μ-loop
 same-length c = c .before .order2 .given ∙ c .before .before .before .before .before .loop .inv .0
 
--- src/lib.rt:198:1
 returns : tie.Need-returns Inv-loop μ-loop
 returns c = inserting-last (c .before .before .before .before .before .loop .inv .1) (omega arith) (c .before .before .put-cell2 .ensures)
 

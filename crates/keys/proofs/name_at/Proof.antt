@@ -1,54 +1,40 @@
+-- `keys::name_at` meets its contract.
+use borrow.Author.Needs.{needs}
 use denote.Ref.{now}
 use Rattle.keys.proofs.CodeLaws.{name-beyond, name-part}
-use borrow.Author.Needs.{needs}
-use native.Mathlib.Omega.{arith}
 use Rattle.keys.proofs.name_at.Statement.{statement}
 use Rattle.keys.proofs.name_at.Tie as tie
-use Rattle.keys.proofs.name_at.Reads as reads
-use Rattle.keys.proofs.name_at.Lts as lts
-use Rattle.keys.proofs.least.Reads as least-reads
 
--- src/lib.rt:79:9
 slice-aggregate-result : tie.Need-slice-aggregate-result
 slice-aggregate-result c = search needs
 
--- src/lib.rt:79:9
 returns : tie.Need-returns
 returns c = name-beyond (now (c .before .before .before .args .names)) (c .before .before .before .args .id) (c .before .before .before .args .len) (c .before .if1 .taken)
 
--- src/lib.rt:81:17
 mul-start : tie.Need-mul-start
 mul-start c = search needs
 
--- src/lib.rt:82:19
 least-requires : tie.Need-least-requires
 least-requires c κs = search needs
 
--- src/lib.rt:82:35
 sub-least : tie.Need-sub-least
 sub-least c = search needs
 
--- src/lib.rt:82:9
 least-requires-2 : tie.Need-least-requires-2
 least-requires-2 c κs = search needs
 
--- src/lib.rt:83:15
 add-end : tie.Need-add-end
 add-end c = search needs
 
--- src/lib.rt:84:5
 sub-result : tie.Need-sub-result
 sub-result c = search needs
 
--- src/lib.rt:84:5
 part-result-start : tie.Need-part-result-start
 part-result-start c = search needs
 
--- src/lib.rt:84:5
 part-result-end : tie.Need-part-result-end
 part-result-end c = search needs
 
--- src/lib.rt:74:1
 returns-2 : tie.Need-returns-2
 returns-2 c = name-part (now (c .before .before .before .before .before .args .names)) (c .before .before .before .before .before .args .id) (c .before .before .before .before .before .args .len) (c .before .before .least .ensures) (c .before .least2 .ensures)
 

@@ -1,30 +1,22 @@
+-- `keys::payload_at` meets its contract.
+use borrow.Author.Needs.{needs}
 use denote.Ref.{now}
 use Rattle.keys.proofs.CodeLaws.{payload-beyond}
-use borrow.Author.Needs.{needs}
-use native.Mathlib.Omega.{arith}
 use Rattle.keys.proofs.payload_at.Statement.{statement}
 use Rattle.keys.proofs.payload_at.Tie as tie
-use Rattle.keys.proofs.payload_at.Reads as reads
-use Rattle.keys.proofs.payload_at.Lts as lts
-use Rattle.cells.proofs.cell_at.Reads as cell-at-reads
 
--- src/lib.rt:100:9
 returns : tie.Need-returns
 returns c = payload-beyond (now (c .before .before .args .cells)) (c .before .before .args .id) (c .if1 .taken)
 
--- src/lib.rt:102:27
 mul-cell-at : tie.Need-mul-cell-at
 mul-cell-at c = search needs
 
--- src/lib.rt:102:27
 add-cell-at : tie.Need-add-cell-at
 add-cell-at c = search needs
 
--- src/lib.rt:102:5
 cell-at-requires : tie.Need-cell-at-requires
 cell-at-requires c κs = search needs
 
--- src/lib.rt:96:1
 returns-2 : tie.Need-returns-2
 returns-2 c = search needs
 

@@ -1,17 +1,15 @@
-use Prim.Native.Nat.{ℕ, _+_, _-_, _≤_}
+-- `keys::put_name` meets its contract.
+use Prim.Native.Nat.{_-_, _≤_}
+use native.Mathlib.Omega.{arith}
+use mathlib.Core.Path.{_≡_, refl, _∙_}
 use lib.Seq.{sets}
 use lib.ListN.{length}
-use mathlib.Core.Path.{_≡_, refl, _∙_}
-use Rattle.integers.proofs.Stores.{Writing, writing-none, writing-more, writing-all}
-use denote.Ref.{now}
-use Rattle.keys.proofs.CodeLaws.{put-beyond}
 use borrow.Author.Needs.{needs}
-use native.Mathlib.Omega.{arith}
+use denote.Ref.{now}
+use Rattle.integers.proofs.Stores.{Writing, writing-none, writing-more, writing-all}
+use Rattle.keys.proofs.CodeLaws.{put-beyond}
 use Rattle.keys.proofs.put_name.Statement.{statement}
 use Rattle.keys.proofs.put_name.Tie as tie
-use Rattle.keys.proofs.put_name.Reads as reads
-use Rattle.keys.proofs.put_name.Lts as lts
-use Rattle.keys.proofs.put_byte.Reads as put-byte-reads
 
 abbrev Inv-loop : tie.InvT-loop
 Inv-loop names₀ id text start j₀ names j = (j ≤ length text) × (length names ≡ length names₀) × Writing (sets names₀ start text) names start text j
@@ -19,47 +17,36 @@ Inv-loop names₀ id text start j₀ names j = (j ≤ length text) × (length na
 abbrev μ-loop : tie.MeasureT-loop
 μ-loop names₀ id text start j₀ names j = length text - j
 
--- src/lib.rt:187:9
 returns : tie.Need-returns Inv-loop μ-loop
 returns c = put-beyond (now (c .before .before .before .args .names)) (c .before .before .before .args .id) (now (c .before .before .before .args .text)) (c .if1 .taken)
 
--- src/lib.rt:189:17
 mul-start : tie.Need-mul-start Inv-loop μ-loop
 mul-start c = search needs
 
--- src/lib.rt:191:5
 loop-holds : tie.Need-loop-holds Inv-loop μ-loop
 loop-holds c = (omega arith, refl, writing-none _ _ _)
 
--- src/lib.rt:192:25
 add-put-byte : tie.Need-add-put-byte Inv-loop μ-loop
 add-put-byte c = search needs
 
--- src/lib.rt:192:36
 shared-slice-read-put-byte : tie.Need-shared-slice-read-put-byte Inv-loop μ-loop
 shared-slice-read-put-byte c = search needs
 
--- src/lib.rt:192:9
 put-byte-requires : tie.Need-put-byte-requires Inv-loop μ-loop
 put-byte-requires c κs = search needs
 
--- src/lib.rt:193:9
 add-j : tie.Need-add-j Inv-loop μ-loop
 add-j c = search needs
 
--- src/lib.rt:191:5
 loop-less : tie.Need-loop-less Inv-loop μ-loop
 loop-less c = omega arith
 
--- src/lib.rt:191:5
 loop-again : tie.Need-loop-again Inv-loop μ-loop
 loop-again c = (omega arith, c .before .names .given ∙ c .before .before .before .before .before .before .loop .inv .1, writing-more (c .before .before .before .before .before .before .loop .inv .2) 0 (omega arith) refl (c .before .before .put-byte .ensures))
 
--- src/lib.rt:183:1
 same-length : tie.Need-same-length Inv-loop μ-loop
 same-length c = c .before .loop .inv .1
 
--- src/lib.rt:183:1
 returns-2 : tie.Need-returns-2 Inv-loop μ-loop
 returns-2 c = writing-all (c .before .loop .inv .2) (omega arith)
 

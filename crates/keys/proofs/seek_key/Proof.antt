@@ -1,20 +1,15 @@
-use denote.Ref.{now}
-use Prim.Native.Nat.{ℕ, _+_, _-_, _≤_}
+-- `keys::seek_key` meets its contract.
+use Prim.Native.Nat.{_-_, _≤_}
+use native.Mathlib.Omega.{arith}
+use borrow.Author.Needs.{needs}
 use mir.Syntax.{w32}
 use mir.Val.{toZ}
 use mir.Facts.{toZ-ofZ}
+use denote.Ref.{now}
 use Rattle.keys.specs.Key.{keyOf}
 use Rattle.keys.proofs.CodeLaws.{Searching, searching, same-key, seek-absent, seek-stopped, seek-found, seek-right, seek-left}
-use borrow.Author.Needs.{needs}
-use native.Mathlib.Omega.{arith}
 use Rattle.keys.proofs.seek_key.Statement.{statement}
 use Rattle.keys.proofs.seek_key.Tie as tie
-use Rattle.keys.proofs.seek_key.Reads as reads
-use Rattle.keys.proofs.seek_key.Lts as lts
-use Rattle.cells.proofs.cell_at.Reads as cell-at-reads
-use Rattle.keys.proofs.compare_at.Reads as compare-at-reads
-use Rattle.keys.proofs.wide.Reads as wide-reads
-use Rattle.limits.proofs.charge.Reads as charge-reads
 
 abbrev Inv-loop : tie.InvT-loop
 Inv-loop names cells order count named number text work max-work low₀ high₀ spent₀ low high spent =
@@ -23,83 +18,63 @@ Inv-loop names cells order count named number text work max-work low₀ high₀ 
 abbrev μ-loop : tie.MeasureT-loop
 μ-loop names cells order count named number text work max-work low₀ high₀ spent₀ low high spent = high - low
 
--- src/lib.rt:146:5
 loop-holds : tie.Need-loop-holds Inv-loop μ-loop
 loop-holds c = (omega arith, searching _ _ _ _ _ _ _)
 
--- src/lib.rt:147:15
 charge-requires : tie.Need-charge-requires Inv-loop μ-loop
 charge-requires c κs = search needs
 
--- src/lib.rt:148:30
 enum-known-stop : tie.Need-enum-known-stop Inv-loop μ-loop
 enum-known-stop c = search needs
 
--- src/lib.rt:149:17
 returns : tie.Need-returns Inv-loop μ-loop
 returns c = same-key _ _ _ _ (c .before .before .before .before .before .before .before .before .before .before .args .named) (now (c .before .before .before .before .before .before .before .before .before .before .args .text)) _ _ (toZ-ofZ (c .before .before .before .before .before .before .before .before .before .before .fits .number)) (seek-stopped _ _ _ _ _ _ _ (c .before .before .before .before .before .loop .inv .1) (c .before .before .before .before .loop-test .taken) (c .before .before .before .charge .ensures) (c .before .stop .given .1))
 
--- src/lib.rt:151:27
 enum-known-now : tie.Need-enum-known-now Inv-loop μ-loop
 enum-known-now c = search needs
 
--- src/lib.rt:155:29
 sub-middle : tie.Need-sub-middle Inv-loop μ-loop
 sub-middle c = search needs
 
--- src/lib.rt:155:22
 add-middle : tie.Need-add-middle Inv-loop μ-loop
 add-middle c = omega (arith, c .before .before .before .before .before .loop .inv .0, c .before .before .before .before .before .before .before .before .before .before .fits .count)
 
--- src/lib.rt:156:23
 cell-at-requires : tie.Need-cell-at-requires Inv-loop μ-loop
 cell-at-requires c κs = search needs
 
--- src/lib.rt:156:13
 wide-requires : tie.Need-wide-requires Inv-loop μ-loop
 wide-requires c κs = search needs
 
--- src/lib.rt:157:15
 compare-at-requires : tie.Need-compare-at-requires Inv-loop μ-loop
 compare-at-requires c κs = search needs
 
--- src/lib.rt:159:23
 enum-told : tie.Need-enum-told Inv-loop μ-loop
 enum-told c = search needs
 
--- src/lib.rt:159:23
 add-low : tie.Need-add-low Inv-loop μ-loop
 add-low c = omega (arith, c .before .before .before .before .before .before .before .before .before .before .loop .inv .0, c .before .before .before .before .before .before .before .before .before .loop-test .taken, c .before .before .before .before .before .before .before .before .before .before .before .before .before .before .before .fits .count)
 
--- src/lib.rt:146:5
 loop-less : tie.Need-loop-less Inv-loop μ-loop
 loop-less c = omega arith
 
--- src/lib.rt:146:5
 loop-again : tie.Need-loop-again Inv-loop μ-loop
 loop-again c = (omega arith, seek-right _ _ _ _ _ _ _ (c .before .before .before .before .before .before .before .before .before .before .loop .inv .1) (c .before .before .before .before .before .before .before .before .before .loop-test .taken) (c .before .before .before .before .before .before .before .before .charge .ensures) (c .before .before .before .before .before .before .now .given .1) (c .before .before .before .before .cell-at .ensures) (c .before .before .before .wide .ensures) (c .before .before .compare-at .ensures) (c .enum-told .given .1))
 
--- src/lib.rt:162:17
 enum-told-2 : tie.Need-enum-told-2 Inv-loop μ-loop
 enum-told-2 c = search needs
 
--- src/lib.rt:162:17
 returns-2 : tie.Need-returns-2 Inv-loop μ-loop
 returns-2 c = same-key _ _ _ _ (c .before .before .before .before .before .before .before .before .before .before .before .before .before .before .before .args .named) (now (c .before .before .before .before .before .before .before .before .before .before .before .before .before .before .before .args .text)) _ _ (toZ-ofZ (c .before .before .before .before .before .before .before .before .before .before .before .before .before .before .before .fits .number)) (seek-found _ _ _ _ _ _ _ (c .before .before .before .before .before .before .before .before .before .before .loop .inv .1) (c .before .before .before .before .before .before .before .before .before .loop-test .taken) (c .before .before .before .before .before .before .before .before .charge .ensures) (c .before .before .before .before .before .before .now .given .1) (c .before .before .before .before .cell-at .ensures) (c .before .before .before .wide .ensures) (c .before .before .compare-at .ensures) (c .enum-told2 .given .1))
 
--- src/lib.rt:165:17
 enum-told-3 : tie.Need-enum-told-3 Inv-loop μ-loop
 enum-told-3 c = search needs
 
--- src/lib.rt:146:5
 loop-less-2 : tie.Need-loop-less-2 Inv-loop μ-loop
 loop-less-2 c = omega arith
 
--- src/lib.rt:146:5
 loop-again-2 : tie.Need-loop-again-2 Inv-loop μ-loop
 loop-again-2 c = (omega arith, seek-left _ _ _ _ _ _ _ (c .before .before .before .before .before .before .before .before .before .before .loop .inv .1) (c .before .before .before .before .before .before .before .before .before .loop-test .taken) (c .before .before .before .before .before .before .before .before .charge .ensures) (c .before .before .before .before .before .before .now .given .1) (c .before .before .before .before .cell-at .ensures) (c .before .before .before .wide .ensures) (c .before .before .compare-at .ensures) (c .enum-told3 .given .1))
 
--- src/lib.rt:130:1
 returns-3 : tie.Need-returns-3 Inv-loop μ-loop
 returns-3 c = same-key _ _ _ _ (c .before .before .before .before .before .before .args .named) (now (c .before .before .before .before .before .before .args .text)) _ _ (toZ-ofZ (c .before .before .before .before .before .before .fits .number)) (seek-absent _ _ _ _ _ _ _ (c .before .loop .inv .1) (c .loop-test .left))
 
