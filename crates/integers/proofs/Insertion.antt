@@ -1,10 +1,10 @@
 -- Insertion: as code does it, a cell at a time with one value in hand, and what stands where afterwards.
-use Prim.Native.Nat.{ℕ, zero, suc, min, _+_, _-_, _≤_, _<_}
+use Prim.Native.Nat.{ℕ, suc, _+_, _-_, _≤_, _<_}
 use native.Mathlib.Omega.{arith}
 use native.Mathlib.Nat.{add-zero}
 use native.Mathlib.Decide.{decLt}
 use mathlib.Core.Path.{_≡_, refl, sym, ap, subst, _∙_}
-use mathlib.Core.List.{List, [], _∷_}
+use mathlib.Core.List.{List, _∷_}
 use lib.ListN.{length, getD, take, drop, set, length-set, length-take, length-drop}
 use lib.Seq.{sets, length-sets, drop-cons, drop-set-lt, getD-take, getD-drop}
 use Rattle.integers.specs.Lists.{inserted}

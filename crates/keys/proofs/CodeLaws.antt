@@ -4,11 +4,11 @@ use native.Mathlib.Omega.{arith}
 use native.Mathlib.Nat.{add-sub-cancel-left}
 use native.Mathlib.Numerals.{add-one}
 use mathlib.Core.Path.{_≡_, refl, sym, ap, subst, _∙_}
-use mathlib.Core.Bool.{Bool, true, false, cond}
+use mathlib.Core.Bool.{Bool, true, false}
 use mathlib.Core.List.{List, [], _∷_}
-use borrow.Author.Tests.{eq-eqb, ne-eqb}
+use borrow.Author.Tests.{ne-eqb}
 use lib.IntN.{ℤ}
-use lib.ListN.{length, getD, take, drop, length-drop, drop-of-length-le, List·getD-eq-default}
+use lib.ListN.{length, getD, take, drop, set, length-drop, drop-of-length-le, List·getD-eq-default}
 use lib.Seq.{drop-cons}
 use lib.Signed.{ltZ}
 use Rattle.integers.proofs.Stores.{take-min, sets-out}
@@ -23,9 +23,9 @@ use Rattle.limits.proofs.CodeLaws.{work-paid, work-stopped}
 use Rattle.cells.specs.Cells.{ofCell}
 use Rattle.search.specs.declared.Ordering.{Ordering}
 use Rattle.search.specs.declared.Ordering.the-variants.{Less, Equal, Greater}
-use Rattle.search.specs.Seek.{middle, compareℕ}
+use Rattle.search.specs.Seek.{middle}
 use Rattle.search.proofs.Turns.{At, at-end, at-stop, at-found, at-right, at-left, is-less, is-greater, is-equal}
-use Rattle.keys.specs.Key.{Key, compareℤ, compareBytes, compareKeys, nameAt, kindAt, payloadAt, keyAt, putName, keyOf, probe, seekKey}
+use Rattle.keys.specs.Key.{Key, compareℤ, compareBytes, compareKeys, nameAt, kindAt, payloadAt, keyAt, putCells, putName, keyOf, probe, seekKey}
 use Rattle.keys.specs.Answers.{Seeks}
 use Rattle.keys.specs.declared.Sought.{Sought}
 use Rattle.keys.specs.declared.Sought.the-variants.{Found, Absent, Stopped}
@@ -104,6 +104,13 @@ module _ (names : List ℕ) (id : ℕ) where
 
   pub put-beyond : (text : List ℕ) → length names / 64 < id → names ≡ putName names id text
   put-beyond text h = sym (sets-out text names (64 * id) (omega arith))
+
+module _ (cells : List ℕ) (id kind payload : ℕ) where
+  pub cells-beyond : length cells ≤ id → cells ≡ putCells cells id kind payload
+  cells-beyond h = sym (sets-out (kind ∷ payload ∷ []) cells (2 * id) (omega arith))
+
+  pub cells-put : {l m : List ℕ} → l ≡ set cells (2 * id) kind → m ≡ set l (2 * id + 1) payload → m ≡ putCells cells id kind payload
+  cells-put d e = e ∙ rw (d, add-one (2 * id))
 
 -- ---- a constant against the key that is sought
 

@@ -1,22 +1,22 @@
 -- The reader's order of keys is total, so the search in a key order that goes up strictly is complete.
-use Prim.Native.Nat.{ℕ, zero, suc, _+_, _≤_, _<_}
+use Prim.Native.Nat.{ℕ, _+_, _<_}
 use native.Mathlib.Omega.{arith}
-use mathlib.Core.Path.{_≡_, refl, sym, ap, ap₂, subst, _∙_}
-use mathlib.Core.Bool.{Bool, true, false, cond}
+use mathlib.Core.Path.{_≡_, refl, sym, ap, ap₂, _∙_}
+use mathlib.Core.Logic.{_↔_}
+use mathlib.Core.Bool.{Bool, true, false}
 use mathlib.Core.List.{List, [], _∷_}
 use lib.IntN.{ℤ}
 use lib.ListN.{length, getD}
 use lib.Signed.{ltZ}
-use Rattle.integers.specs.Order.{up, dn, Le, Lt}
+use Rattle.integers.specs.Order.{Lt}
 use Rattle.integers.specs.Lists.{inserted}
 use Rattle.integers.proofs.OrderLaws.{lt-yes, lt-no, yes-lt, no-lt, le-antisym}
 use Rattle.integers.proofs.ListLaws.{Compared, less, more, same, compared}
 use Rattle.limits.proofs.Monad.{Ensures, weaken}
-use Rattle.search.specs.declared.Ordering.{Ordering}
 use Rattle.search.specs.declared.Ordering.the-variants.{Less, Equal, Greater}
-use Rattle.search.specs.Seek.{Place, found, absent, by, compareℕ}
+use Rattle.search.specs.Seek.{found, absent}
 use Rattle.search.proofs.Turns.{is-less, is-greater, is-equal}
-use Rattle.search.proofs.Total.{turn, Total, Sorted, rising, Gap, gap, its-place, inserted-sorted}
+use Rattle.search.proofs.Total.{turn, Total, Sorted, before-turn, after-turn, alike, rising, Gap, gap, its-place, inserted-sorted}
 use Rattle.search.proofs.Complete.{Rising, Ends, search-ends}
 use Rattle.keys.specs.Key.{Key, number, name, compareℤ, compareBytes, compareKeys, keyAt, probe, seekKey}
 
@@ -175,6 +175,12 @@ equal-keys (name s) (name t) e = ap name (equal-bytes s t e)
 pub total-keys : Total compareKeys
 total-keys = record { turned = turned-keys; trans = trans-keys; equal = equal-keys }
 
+pub less-greater : (a b : Key) → (compareKeys a b ≡ Less) ↔ (compareKeys b a ≡ Greater)
+less-greater a b = (before-turn total-keys a b, after-turn total-keys b a)
+
+pub equal-same : (a b : Key) → (compareKeys a b ≡ Equal) ↔ (a ≡ b)
+equal-same a b = (equal-keys a b, alike total-keys a b)
+
 -- ---- the search in a key order that goes up strictly
 
 -- the key of the i-th id
@@ -189,7 +195,8 @@ module _ (names cells order : List ℕ) (count : ℕ) (k : Key) (s : Ordered nam
   pub probe-rises : Rising (probe names cells order k) count
   probe-rises = rising total-keys (keyOfOrder names cells order) k count s
 
-  search-complete : Ensures (Ends (probe names cells order k) count) (seekKey names cells order count k)
+  -- where it ends: at an equal key, or with all below the place less and all from it on greater
+  pub search-complete : Ensures (Ends (probe names cells order k) count) (seekKey names cells order count k)
   unfolding seekKey
   search-complete = search-ends (probe names cells order k) count probe-rises count (omega arith)
 

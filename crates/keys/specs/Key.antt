@@ -2,15 +2,15 @@
 use Prim.Native.Nat.{ℕ, _+_, _*_, min}
 use mathlib.Core.Bool.{Bool, true, false, cond}
 use mathlib.Core.List.{List, [], _∷_}
-use lib.Dec.{ltb, eqb}
+use lib.Dec.{eqb}
 use lib.IntN.{ℤ}
-use lib.ListN.{length, getD, take, drop}
+use lib.ListN.{getD, take, drop}
 use lib.Seq.{sets}
 use lib.Signed.{ltZ}
 use Rattle.limits.specs.declared.Stop.{Stop}
 use Rattle.limits.specs.Metered.{Metered}
 use Rattle.limits.specs.Meter.{Meter}
-use Rattle.cells.specs.Cells.{toCell, ofCell}
+use Rattle.cells.specs.Cells.{ofCell}
 use Rattle.search.specs.declared.Ordering.{Ordering}
 use Rattle.search.specs.declared.Ordering.the-variants.{Less, Equal, Greater}
 use Rattle.search.specs.Seek.{Place, by, compareℕ, seek}
@@ -54,13 +54,9 @@ payloadAt cells id = getD cells (2 * id + 1) 0
 unfoldable pub keyAt : List ℕ → List ℕ → ℕ → Key
 keyAt names cells id = cond (eqb (kindAt cells id) 1) (number (ofCell (payloadAt cells id))) (name (nameAt names id (payloadAt cells id)))
 
--- what is written of a retained key: its two cells, and a name's bytes; the rest of its 64 stay
-abbrev pub cellsOf : Key → List ℕ
-cellsOf (number z) = 1 ∷ toCell z ∷ []
-cellsOf (name s) = 2 ∷ length s ∷ []
-
-abbrev pub putCells : List ℕ → ℕ → Key → List ℕ
-putCells cells id k = sets cells (2 * id) (cellsOf k)
+-- what is written of a constant: its two cells, and the bytes of a retained name; the rest of its 64 stay
+abbrev pub putCells : List ℕ → ℕ → ℕ → ℕ → List ℕ
+putCells cells id kind payload = sets cells (2 * id) (kind ∷ payload ∷ [])
 
 abbrev pub putName : List ℕ → ℕ → List ℕ → List ℕ
 putName names id text = sets names (64 * id) text

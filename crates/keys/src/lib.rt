@@ -5,10 +5,10 @@ use limits::Stop;
 use search::Ordering;
 ghost use mathlib.Core.Path.{_≡_};
 ghost use Prim.Native.Nat.{min};
-ghost use Rattle.integers.specs.Lists.{inserted};
-ghost use Rattle.keys.specs.Key.{compareℤ, compareBytes, compareKeys, nameAt, kindAt, payloadAt, keyAt, putName, keyOf, seekKey};
-ghost use Rattle.keys.specs.Answers.{Seeks};
 ghost use lib.ListN.{set};
+ghost use Rattle.integers.specs.Lists.{inserted};
+ghost use Rattle.keys.specs.Key.{compareℤ, compareBytes, compareKeys, nameAt, kindAt, payloadAt, keyAt, putCells, putName, keyOf, seekKey};
+ghost use Rattle.keys.specs.Answers.{Seeks};
 
 // The place of a key in the key order, or where it would stand, with the work after the search.
 pub enum Sought {
@@ -167,6 +167,17 @@ pub fn seek_key(
         }
     }
     Sought::Absent(low, spent)
+}
+
+// The two cells of a constant; beyond the table nothing is written.
+pub fn put_cells(cells: &mut [u32], id: usize, kind: u32, payload: u32)
+    ensures { λ _. ⌜ now (cells .exit) ≡ putCells (now (cells .entry)) id kind payload ⌝ }
+{
+    if cells.len() <= id {
+        return;
+    }
+    cells::put_cell(cells, 2 * id, kind);
+    cells::put_cell(cells, 2 * id + 1, payload);
 }
 
 // A byte beyond the store is not written.
