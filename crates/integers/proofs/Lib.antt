@@ -5,3 +5,4 @@ pub mod Products
 pub mod Bits
 pub mod ListLaws
 pub mod Stores
+pub mod Insertion

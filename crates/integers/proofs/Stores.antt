@@ -5,8 +5,8 @@ use native.Mathlib.Nat.{add-zero}
 use native.Mathlib.Decide.{decLt, decLe}
 use mathlib.Core.Path.{_≡_, refl, sym, ap, subst, _∙_}
 use mathlib.Core.List.{List, [], _∷_}
-use lib.ListN.{length, getD, take, drop, set, length-set, drop-of-length-le}
-use lib.Seq.{sets, drop-cons, take-all, set-out, getD-set-same, getD-set-other, ext-getD}
+use lib.ListN.{length, getD, take, drop, set, length-set, length-take, length-drop, drop-of-length-le}
+use lib.Seq.{sets, drop-cons, take-all, set-out, getD-set-same, getD-set-other, getD-take, getD-drop, ext-getD}
 use Rattle.integers.specs.Lists.{All}
 
 module _ {A : Type 0} where
@@ -51,6 +51,15 @@ module _ {A : Type 0} where
     | yes h ↦ let e : min n (length l) ≡ n = omega arith in ap (λ (m : ℕ). take m l) e
     | no h ↦ take-all (min n (length l)) l (omega arith) ∙ sym (take-all n l (omega arith))
   ]
+
+  -- parts of two lists are the same where their cells are, if both are as long
+  pub part-same : (z : A) (l m : List A) (a b n : ℕ) → min n (length l - a) ≡ min n (length m - b) →
+      ((k : ℕ) → k < n → getD l (a + k) z ≡ getD m (b + k) z) → take n (drop a l) ≡ take n (drop b m)
+  part-same z l m a b n h c =
+      ext-getD z (take n (drop a l)) (take n (drop b m)) (simp (length-take, length-drop) h)
+      (λ i p.
+      let q : i < n = omega (arith, simp (length-take, length-drop) at p) in
+      getD-take n (drop a l) i z q ∙ getD-drop a l i z ∙ c i q ∙ sym (getD-take n (drop b m) i z q ∙ getD-drop b m i z))
 
   -- ---- a list filled from the front: its first j cells are f's
 

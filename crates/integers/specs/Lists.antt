@@ -1,7 +1,9 @@
--- Lists: what holds of every element, strictly increasing lists of natural numbers, and the elements that pass a test.
-use Prim.Native.Nat.{ℕ, _<_}
+-- Lists: what holds of every element, strictly increasing lists of natural numbers, the elements that pass a test, and insertion.
+use Prim.Native.Nat.{ℕ, _-_, _<_}
 use mathlib.Core.Bool.{Bool, cond}
 use mathlib.Core.List.{List, [], _∷_}
+use lib.ListN.{take, drop}
+use lib.Seq.{sets}
 
 abbrev pub All : {A : Type 0} → (A → Type 0) → List A → Type 0
 All P [] = Unit {0}
@@ -19,3 +21,7 @@ Increasing (x ∷ l) = Above x l
 abbrev pub passing : {A : Type 0} → (A → Bool) → List A → List A
 passing p [] = []
 passing p (a ∷ l) = cond (p a) (a ∷ passing p l) (passing p l)
+
+-- a value stored at a place, and what stood from there up to `count` one place further; nothing is stored beyond the end
+unfoldable pub inserted : {A : Type 0} → List A → ℕ → ℕ → A → List A
+inserted l at count v = sets l at (v ∷ take (count - at) (drop at l))

@@ -1,0 +1,3 @@
+pub mod CodeLaws
+pub mod KeyOrder
+pub mod CodecLaws

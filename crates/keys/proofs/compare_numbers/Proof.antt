@@ -1,0 +1,17 @@
+-- `keys::compare_numbers` meets its contract.
+use Rattle.integers.proofs.Bits.{lt-at}
+use Rattle.keys.proofs.CodeLaws.{numbers-less, numbers-greater, numbers-equal}
+use Rattle.keys.proofs.compare_numbers.Statement.{statement}
+use Rattle.keys.proofs.compare_numbers.Tie as tie
+
+returns : tie.Need-returns
+returns c = numbers-less (c .before .args .a) (c .before .args .b) (lt-at (c .before .fits .a) (c .before .fits .b) (c .if1 .taken))
+
+returns-2 : tie.Need-returns-2
+returns-2 c = numbers-greater (c .before .before .args .a) (c .before .before .args .b) (lt-at (c .before .before .fits .a) (c .before .before .fits .b) (c .before .if1 .left)) (lt-at (c .before .before .fits .b) (c .before .before .fits .a) (c .if2 .taken))
+
+returns-3 : tie.Need-returns-3
+returns-3 c = numbers-equal (c .before .before .args .a) (c .before .before .args .b) (lt-at (c .before .before .fits .a) (c .before .before .fits .b) (c .before .if1 .left)) (lt-at (c .before .before .fits .b) (c .before .before .fits .a) (c .if2 .left))
+
+pub compare-numbers-spec : {M : Type 1} → statement M
+compare-numbers-spec = tie.close (tie.spec returns returns-2 returns-3)
