@@ -1,7 +1,9 @@
 -- The binary search of the Rust (thresholds, keys and lists are searched alike), over whatever `probe` says of each item.
 use Prim.Native.Nat.{ℕ, zero, suc, _+_, _-_, _/_}
 use mathlib.Core.Bool.{Bool, true, false, cond}
-use lib.Dec.{ltb, eqb}
+use lib.Dec.{ltb}
+use lib.IntN.{ℤ}
+use lib.Signed.{ltZ}
 use Rattle.limits.specs.declared.Stop.{Stop}
 use Rattle.limits.specs.Metered.{Metered, pure, _>>=_, _>>_}
 use Rattle.limits.specs.Meter.{Meter, work}
@@ -37,3 +39,7 @@ seek probe (suc turns) low high =
 -- two natural numbers
 abbrev pub compareℕ : ℕ → ℕ → Ordering
 compareℕ a b = cond (ltb a b) Less (cond (ltb b a) Greater Equal)
+
+-- two integers
+abbrev pub compareℤ : ℤ → ℤ → Ordering
+compareℤ a b = cond (ltZ a b) Less (cond (ltZ b a) Greater Equal)
