@@ -1,5 +1,5 @@
 -- The reader's order of keys is total, so the search in a key order that goes up strictly is complete.
-use Prim.Native.Nat.{ℕ, _+_, _<_}
+use Prim.Native.Nat.{ℕ, _+_, _≤_, _<_}
 use native.Mathlib.Omega.{arith}
 use mathlib.Core.Path.{_≡_, refl, sym, ap, ap₂, _∙_}
 use mathlib.Core.Logic.{_↔_}
@@ -18,7 +18,8 @@ use Rattle.search.specs.Seek.{found, absent}
 use Rattle.search.proofs.Turns.{is-less, is-greater, is-equal}
 use Rattle.search.proofs.Total.{turn, Total, Sorted, before-turn, after-turn, alike, rising, Gap, gap, its-place, inserted-sorted}
 use Rattle.search.proofs.Complete.{Rising, Ends, search-ends}
-use Rattle.keys.specs.Key.{Key, number, name, compareℤ, compareBytes, compareKeys, keyAt, probe, seekKey}
+use Rattle.keys.specs.Key.{Key, number, name, compareℤ, compareBytes, compareKeys, keyAt, putCells, putName, probe, seekKey}
+use Rattle.keys.proofs.CodecLaws.{cells-kept, name-kept}
 
 -- ---- numbers
 
@@ -214,3 +215,13 @@ module _ (names cells order : List ℕ) (count : ℕ) (k : Key) (s : Ordered nam
       Ordered names cells (inserted order low count id) (count + 1)
   insert-keeps low id g h e =
       inserted-sorted total-keys (keyAt names cells) order count low id (g .0) h s (rw e (g .1)) (rw e (g .2))
+
+-- the tables of an id that is not in the key order may be written
+module _ (names cells order : List ℕ) (count id kind payload : ℕ) (text : List ℕ) (few : length text ≤ 64) (new : (i : ℕ) → i < count → getD order i 0 ≡ id → ⊥) where
+  stays : (i : ℕ) → i < count → keyOfOrder (putName names id text) (putCells cells id kind payload) order i ≡ keyOfOrder names cells order i
+  stays i h =
+      name-kept names id (getD order i 0) text few (new i h) (putCells cells id kind payload)
+      ∙ cells-kept cells id (getD order i 0) kind payload (new i h) names
+
+  pub write-keeps : Ordered names cells order count → Ordered (putName names id text) (putCells cells id kind payload) order count
+  write-keeps s p q h k = rw (stays p (omega arith), stays q k) (s p q h k)

@@ -17,6 +17,7 @@ pub enum Sought {
     Stopped(Stop, u64),
 }
 
+// By value.
 pub fn compare_numbers(a: i32, b: i32) -> Ordering
     ensures { λ r. ⌜ r ≡ compareℤ a b ⌝ }
 {
@@ -70,7 +71,7 @@ fn wide(x: u32) -> usize
     x as usize
 }
 
-// The name of a constant, a part of the lent name store. A place beyond the store gives an empty part.
+// The name of a constant, a part of the lent name store: at most 64 bytes, and what the store has of them.
 pub fn name_at<'a>(names: &'a [u8], id: usize, len: usize) -> &'a [u8]
     ensures { λ r. ⌜ now r ≡ nameAt (now (names .entry)) id len ⌝ }
 {
@@ -84,6 +85,7 @@ pub fn name_at<'a>(names: &'a [u8], id: usize, len: usize) -> &'a [u8]
     &names[start..end]
 }
 
+// The first cell of a constant; 0 beyond the table.
 pub fn kind_at(cells: &[u32], id: usize) -> u32
     ensures { λ r. ⌜ r ≡ kindAt (now (cells .entry)) id ⌝ }
 {
@@ -93,6 +95,7 @@ pub fn kind_at(cells: &[u32], id: usize) -> u32
     cells::cell_at(cells, 2 * id)
 }
 
+// The second: a number's cell, or the length of a name.
 pub fn payload_at(cells: &[u32], id: usize) -> u32
     ensures { λ r. ⌜ r ≡ payloadAt (now (cells .entry)) id ⌝ }
 {
@@ -126,7 +129,7 @@ pub fn compare_at(
     Ordering::Greater
 }
 
-// Binary search among the first `count` ids of the key order.
+// Binary search among the first `count` ids of the key order; one unit of work for each key that is looked at.
 pub fn seek_key(
     names: &[u8],
     cells: &[u32],
@@ -205,7 +208,7 @@ pub fn put_name(names: &mut [u8], id: usize, text: &[u8])
     }
 }
 
-// An id into the key order; those from its place up to `count` go one place up.
+// An id into the key order, which has `count`; those from its place on go one place up.
 pub fn insert_cell(order: &mut [u32], at: usize, count: usize, id: u32)
     ensures { λ _. ⌜ now (order .exit) ≡ inserted (now (order .entry)) at count id ⌝ }
 {

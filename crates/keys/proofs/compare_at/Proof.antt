@@ -14,7 +14,11 @@ kind-at-requires : tie.Need-kind-at-requires
 kind-at-requires c κs = search needs
 
 returns : tie.Need-returns
-returns c = number-name (now (c .before .before .before .before .before .before .before .args .names)) (now (c .before .before .before .before .before .before .before .args .cells)) (c .before .before .before .before .before .before .before .args .id) (c .before .before .before .before .before .before .before .args .named) (c .before .before .before .before .before .before .before .args .number) (now (c .before .before .before .before .before .before .before .args .text)) (c .before .before .kind-at .ensures) (c .before .before .before .payload-at .ensures) (c .before .if1 .taken) (c .if2 .taken)
+returns c =
+    let a = c .before .before .before .before .before .before .before .args in
+    let k = c .before .before .kind-at .ensures in
+    let p = c .before .before .before .payload-at .ensures in
+    number-name (now (a .names)) (now (a .cells)) (a .id) (a .named) (a .number) (now (a .text)) k p (c .before .if1 .taken) (c .if2 .taken)
 
 of-cell-requires : tie.Need-of-cell-requires
 of-cell-requires c κs = search needs
@@ -23,7 +27,12 @@ compare-numbers-requires : tie.Need-compare-numbers-requires
 compare-numbers-requires c κs = search needs
 
 returns-2 : tie.Need-returns-2
-returns-2 c = number-number (now (c .before .before .before .before .before .before .before .before .before .args .names)) (now (c .before .before .before .before .before .before .before .before .before .args .cells)) (c .before .before .before .before .before .before .before .before .before .args .id) (c .before .before .before .before .before .before .before .before .before .args .named) (c .before .before .before .before .before .before .before .before .before .args .number) (now (c .before .before .before .before .before .before .before .before .before .args .text)) (c .before .before .before .before .kind-at .ensures) (c .before .before .before .before .before .payload-at .ensures) (c .before .before .before .if1 .taken) (c .before .before .if2 .left) (c .before .of-cell .ensures) (read₂ (sf32 (c .before .of-cell .result) (c .before .of-cell .ok)) (c .before .before .before .before .before .before .before .before .before .fits .number) compareℤ (c .compare-numbers .ensures))
+returns-2 c =
+    let a = c .before .before .before .before .before .before .before .before .before .args in
+    let k = c .before .before .before .before .kind-at .ensures in
+    let p = c .before .before .before .before .before .payload-at .ensures in
+    let v = c .before .of-cell in
+    number-number (now (a .names)) (now (a .cells)) (a .id) (a .named) (a .number) (now (a .text)) k p (c .before .before .before .if1 .taken) (c .before .before .if2 .left) (v .ensures) (read₂ (sf32 (v .result) (v .ok)) (c .before .before .before .before .before .before .before .before .before .fits .number) compareℤ (c .compare-numbers .ensures))
 
 wide-requires : tie.Need-wide-requires
 wide-requires c κs = search needs
@@ -35,10 +44,18 @@ compare-bytes-requires : tie.Need-compare-bytes-requires
 compare-bytes-requires c κs = search needs
 
 returns-3 : tie.Need-returns-3
-returns-3 c = name-name (now (c .before .before .before .before .before .before .before .before .before .before .args .names)) (now (c .before .before .before .before .before .before .before .before .before .before .args .cells)) (c .before .before .before .before .before .before .before .before .before .before .args .id) (c .before .before .before .before .before .before .before .before .before .before .args .named) (c .before .before .before .before .before .before .before .before .before .before .args .number) (now (c .before .before .before .before .before .before .before .before .before .before .args .text)) (c .before .before .before .before .before .kind-at .ensures) (c .before .before .before .before .before .before .payload-at .ensures) (c .before .before .before .before .if1 .left) (c .before .before .before .if3 .taken) (c .before .before .wide .ensures) (c .before .name-at .ensures) (c .compare-bytes .ensures)
+returns-3 c =
+    let a = c .before .before .before .before .before .before .before .before .before .before .args in
+    let k = c .before .before .before .before .before .kind-at .ensures in
+    let p = c .before .before .before .before .before .before .payload-at .ensures in
+    name-name (now (a .names)) (now (a .cells)) (a .id) (a .named) (a .number) (now (a .text)) k p (c .before .before .before .before .if1 .left) (c .before .before .before .if3 .taken) (c .before .before .wide .ensures) (c .before .name-at .ensures) (c .compare-bytes .ensures)
 
 returns-4 : tie.Need-returns-4
-returns-4 c = name-number (now (c .before .before .before .before .before .before .before .args .names)) (now (c .before .before .before .before .before .before .before .args .cells)) (c .before .before .before .before .before .before .before .args .id) (c .before .before .before .before .before .before .before .args .named) (c .before .before .before .before .before .before .before .args .number) (now (c .before .before .before .before .before .before .before .args .text)) (c .before .before .kind-at .ensures) (c .before .before .before .payload-at .ensures) (c .before .if1 .left) (c .if3 .left)
+returns-4 c =
+    let a = c .before .before .before .before .before .before .before .args in
+    let k = c .before .before .kind-at .ensures in
+    let p = c .before .before .before .payload-at .ensures in
+    name-number (now (a .names)) (now (a .cells)) (a .id) (a .named) (a .number) (now (a .text)) k p (c .before .if1 .left) (c .if3 .left)
 
 pub compare-at-spec : {M : Type 1} → statement M
 compare-at-spec =

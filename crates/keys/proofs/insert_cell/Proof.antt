@@ -31,7 +31,9 @@ loop-less : tie.Need-loop-less Inv-loop μ-loop
 loop-less c = omega arith
 
 loop-again : tie.Need-loop-again Inv-loop μ-loop
-loop-again c = (c .before .order .given ∙ c .before .before .before .before .before .before .before .loop .inv .0, inserting-more (c .before .before .before .before .before .before .before .loop .inv .1) 0 (omega arith) (c .before .before .before .before .cell-at .ensures) (c .before .before .put-cell .ensures))
+loop-again c =
+    let s = c .before .before .before .before .before .before .before .loop .inv in
+    (c .before .order .given ∙ s .0, inserting-more (s .1) 0 (omega arith) (c .before .before .before .before .cell-at .ensures) (c .before .before .put-cell .ensures))
 
 put-cell-requires-2 : tie.Need-put-cell-requires-2 Inv-loop μ-loop
 put-cell-requires-2 c κs = search needs

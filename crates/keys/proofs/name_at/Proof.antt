@@ -9,7 +9,7 @@ slice-aggregate-result : tie.Need-slice-aggregate-result
 slice-aggregate-result c = search needs
 
 returns : tie.Need-returns
-returns c = name-beyond (now (c .before .before .before .args .names)) (c .before .before .before .args .id) (c .before .before .before .args .len) (c .before .if1 .taken)
+returns c = let a = c .before .before .before .args in name-beyond (now (a .names)) (a .id) (a .len) (c .before .if1 .taken)
 
 mul-start : tie.Need-mul-start
 mul-start c = search needs
@@ -36,7 +36,9 @@ part-result-end : tie.Need-part-result-end
 part-result-end c = search needs
 
 returns-2 : tie.Need-returns-2
-returns-2 c = name-part (now (c .before .before .before .before .before .args .names)) (c .before .before .before .before .before .args .id) (c .before .before .before .before .before .args .len) (c .before .before .least .ensures) (c .before .least2 .ensures)
+returns-2 c =
+    let a = c .before .before .before .before .before .args in
+    name-part (now (a .names)) (a .id) (a .len) (c .before .before .least .ensures) (c .before .least2 .ensures)
 
 pub name-at-spec : {M : Type 1} → statement M
 name-at-spec =

@@ -6,7 +6,7 @@ use Rattle.keys.proofs.put_cells.Statement.{statement}
 use Rattle.keys.proofs.put_cells.Tie as tie
 
 returns : tie.Need-returns
-returns c = cells-beyond (now (c .before .before .args .cells)) (c .before .before .args .id) (c .before .before .args .kind) (c .before .before .args .payload) (c .if1 .taken)
+returns c = let a = c .before .before .args in cells-beyond (now (a .cells)) (a .id) (a .kind) (a .payload) (c .if1 .taken)
 
 mul-put-cell : tie.Need-mul-put-cell
 mul-put-cell c = search needs
@@ -27,7 +27,9 @@ same-length : tie.Need-same-length
 same-length c = search needs
 
 returns-2 : tie.Need-returns-2
-returns-2 c = cells-put (now (c .before .before .before .before .before .before .before .before .before .before .args .cells)) (c .before .before .before .before .before .before .before .before .before .before .args .id) (c .before .before .before .before .before .before .before .before .before .before .args .kind) (c .before .before .before .before .before .before .before .before .before .before .args .payload) (c .before .before .before .before .before .before .put-cell .ensures) (c .before .before .put-cell2 .ensures)
+returns-2 c =
+    let a = c .before .before .before .before .before .before .before .before .before .before .args in
+    cells-put (now (a .cells)) (a .id) (a .kind) (a .payload) (c .before .before .before .before .before .before .put-cell .ensures) (c .before .before .put-cell2 .ensures)
 
 pub put-cells-spec : {M : Type 1} → statement M
 put-cells-spec =

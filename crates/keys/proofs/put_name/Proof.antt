@@ -18,7 +18,7 @@ abbrev μ-loop : tie.MeasureT-loop
 μ-loop names₀ id text start j₀ names j = length text - j
 
 returns : tie.Need-returns Inv-loop μ-loop
-returns c = put-beyond (now (c .before .before .before .args .names)) (c .before .before .before .args .id) (now (c .before .before .before .args .text)) (c .if1 .taken)
+returns c = let a = c .before .before .before .args in put-beyond (now (a .names)) (a .id) (now (a .text)) (c .if1 .taken)
 
 mul-start : tie.Need-mul-start Inv-loop μ-loop
 mul-start c = search needs
@@ -42,7 +42,9 @@ loop-less : tie.Need-loop-less Inv-loop μ-loop
 loop-less c = omega arith
 
 loop-again : tie.Need-loop-again Inv-loop μ-loop
-loop-again c = (omega arith, c .before .names .given ∙ c .before .before .before .before .before .before .loop .inv .1, writing-more (c .before .before .before .before .before .before .loop .inv .2) 0 (omega arith) refl (c .before .before .put-byte .ensures))
+loop-again c =
+    let s = c .before .before .before .before .before .before .loop .inv in
+    (omega arith, c .before .names .given ∙ s .1, writing-more (s .2) 0 (omega arith) refl (c .before .before .put-byte .ensures))
 
 same-length : tie.Need-same-length Inv-loop μ-loop
 same-length c = c .before .loop .inv .1

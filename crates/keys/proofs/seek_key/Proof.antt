@@ -28,7 +28,12 @@ enum-known-stop : tie.Need-enum-known-stop Inv-loop μ-loop
 enum-known-stop c = search needs
 
 returns : tie.Need-returns Inv-loop μ-loop
-returns c = same-key _ _ _ _ (c .before .before .before .before .before .before .before .before .before .before .args .named) (now (c .before .before .before .before .before .before .before .before .before .before .args .text)) _ _ (toZ-ofZ (c .before .before .before .before .before .before .before .before .before .before .fits .number)) (seek-stopped _ _ _ _ _ _ _ (c .before .before .before .before .before .loop .inv .1) (c .before .before .before .before .loop-test .taken) (c .before .before .before .charge .ensures) (c .before .stop .given .1))
+returns c =
+    let a = c .before .before .before .before .before .before .before .before .before .before .args in
+    let s = c .before .before .before .before .before .loop .inv .1 in
+    let t = c .before .before .before .before .loop-test .taken in
+    let p = c .before .before .before .charge .ensures in
+    same-key _ _ _ _ (a .named) (now (a .text)) _ _ (toZ-ofZ (c .before .before .before .before .before .before .before .before .before .before .fits .number)) (seek-stopped _ _ _ _ _ _ _ s t p (c .before .stop .given .1))
 
 enum-known-now : tie.Need-enum-known-now Inv-loop μ-loop
 enum-known-now c = search needs
@@ -58,13 +63,22 @@ loop-less : tie.Need-loop-less Inv-loop μ-loop
 loop-less c = omega arith
 
 loop-again : tie.Need-loop-again Inv-loop μ-loop
-loop-again c = (omega arith, seek-right _ _ _ _ _ _ _ (c .before .before .before .before .before .before .before .before .before .before .loop .inv .1) (c .before .before .before .before .before .before .before .before .before .loop-test .taken) (c .before .before .before .before .before .before .before .before .charge .ensures) (c .before .before .before .before .before .before .now .given .1) (c .before .before .before .before .cell-at .ensures) (c .before .before .before .wide .ensures) (c .before .before .compare-at .ensures) (c .enum-told .given .1))
+loop-again c =
+    let s = c .before .before .before .before .before .before .before .before .before .before .loop .inv .1 in
+    let t = c .before .before .before .before .before .before .before .before .before .loop-test .taken in
+    let p = c .before .before .before .before .before .before .before .before .charge .ensures in
+    (omega arith, seek-right _ _ _ _ _ _ _ s t p (c .before .before .before .before .before .before .now .given .1) (c .before .before .before .before .cell-at .ensures) (c .before .before .before .wide .ensures) (c .before .before .compare-at .ensures) (c .enum-told .given .1))
 
 enum-told-2 : tie.Need-enum-told-2 Inv-loop μ-loop
 enum-told-2 c = search needs
 
 returns-2 : tie.Need-returns-2 Inv-loop μ-loop
-returns-2 c = same-key _ _ _ _ (c .before .before .before .before .before .before .before .before .before .before .before .before .before .before .before .args .named) (now (c .before .before .before .before .before .before .before .before .before .before .before .before .before .before .before .args .text)) _ _ (toZ-ofZ (c .before .before .before .before .before .before .before .before .before .before .before .before .before .before .before .fits .number)) (seek-found _ _ _ _ _ _ _ (c .before .before .before .before .before .before .before .before .before .before .loop .inv .1) (c .before .before .before .before .before .before .before .before .before .loop-test .taken) (c .before .before .before .before .before .before .before .before .charge .ensures) (c .before .before .before .before .before .before .now .given .1) (c .before .before .before .before .cell-at .ensures) (c .before .before .before .wide .ensures) (c .before .before .compare-at .ensures) (c .enum-told2 .given .1))
+returns-2 c =
+    let a = c .before .before .before .before .before .before .before .before .before .before .before .before .before .before .before .args in
+    let s = c .before .before .before .before .before .before .before .before .before .before .loop .inv .1 in
+    let t = c .before .before .before .before .before .before .before .before .before .loop-test .taken in
+    let p = c .before .before .before .before .before .before .before .before .charge .ensures in
+    same-key _ _ _ _ (a .named) (now (a .text)) _ _ (toZ-ofZ (c .before .before .before .before .before .before .before .before .before .before .before .before .before .before .before .fits .number)) (seek-found _ _ _ _ _ _ _ s t p (c .before .before .before .before .before .before .now .given .1) (c .before .before .before .before .cell-at .ensures) (c .before .before .before .wide .ensures) (c .before .before .compare-at .ensures) (c .enum-told2 .given .1))
 
 enum-told-3 : tie.Need-enum-told-3 Inv-loop μ-loop
 enum-told-3 c = search needs
@@ -73,10 +87,16 @@ loop-less-2 : tie.Need-loop-less-2 Inv-loop μ-loop
 loop-less-2 c = omega arith
 
 loop-again-2 : tie.Need-loop-again-2 Inv-loop μ-loop
-loop-again-2 c = (omega arith, seek-left _ _ _ _ _ _ _ (c .before .before .before .before .before .before .before .before .before .before .loop .inv .1) (c .before .before .before .before .before .before .before .before .before .loop-test .taken) (c .before .before .before .before .before .before .before .before .charge .ensures) (c .before .before .before .before .before .before .now .given .1) (c .before .before .before .before .cell-at .ensures) (c .before .before .before .wide .ensures) (c .before .before .compare-at .ensures) (c .enum-told3 .given .1))
+loop-again-2 c =
+    let s = c .before .before .before .before .before .before .before .before .before .before .loop .inv .1 in
+    let t = c .before .before .before .before .before .before .before .before .before .loop-test .taken in
+    let p = c .before .before .before .before .before .before .before .before .charge .ensures in
+    (omega arith, seek-left _ _ _ _ _ _ _ s t p (c .before .before .before .before .before .before .now .given .1) (c .before .before .before .before .cell-at .ensures) (c .before .before .before .wide .ensures) (c .before .before .compare-at .ensures) (c .enum-told3 .given .1))
 
 returns-3 : tie.Need-returns-3 Inv-loop μ-loop
-returns-3 c = same-key _ _ _ _ (c .before .before .before .before .before .before .args .named) (now (c .before .before .before .before .before .before .args .text)) _ _ (toZ-ofZ (c .before .before .before .before .before .before .fits .number)) (seek-absent _ _ _ _ _ _ _ (c .before .loop .inv .1) (c .loop-test .left))
+returns-3 c =
+    let a = c .before .before .before .before .before .before .args in
+    same-key _ _ _ _ (a .named) (now (a .text)) _ _ (toZ-ofZ (c .before .before .before .before .before .before .fits .number)) (seek-absent _ _ _ _ _ _ _ (c .before .loop .inv .1) (c .loop-test .left))
 
 pub seek-key-spec : {M : Type 1} → statement M
 seek-key-spec =
