@@ -25,10 +25,11 @@ use Rattle.search.specs.declared.Ordering.{Ordering}
 use Rattle.search.specs.declared.Ordering.the-variants.{Less, Equal, Greater}
 use Rattle.search.specs.Seek.{middle}
 use Rattle.search.proofs.Turns.{At, at-end, at-stop, at-found, at-right, at-left, is-less, is-greater, is-equal}
-use Rattle.keys.specs.Key.{Key, compareℤ, compareBytes, compareKeys, nameAt, kindAt, payloadAt, keyAt, putCells, putName, keyOf, probe, seekKey}
-use Rattle.keys.specs.Answers.{Seeks}
-use Rattle.keys.specs.declared.Sought.{Sought}
-use Rattle.keys.specs.declared.Sought.the-variants.{Found, Absent, Stopped}
+use Rattle.keys.specs.Key.{Key, compareBytes, compareKeys, nameAt, kindAt, payloadAt, keyAt, putCells, putName, keyOf, probe, seekKey}
+use Rattle.search.specs.Seek.{compareℤ}
+use Rattle.search.specs.Answers.{Seeks}
+use Rattle.search.specs.declared.Sought.{Sought}
+use Rattle.search.specs.declared.Sought.the-variants.{Found, Absent, Stopped}
 
 -- ---- two numbers
 

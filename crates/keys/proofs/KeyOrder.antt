@@ -18,7 +18,8 @@ use Rattle.search.specs.Seek.{found, absent}
 use Rattle.search.proofs.Turns.{is-less, is-greater, is-equal}
 use Rattle.search.proofs.Total.{turn, Total, Sorted, before-turn, after-turn, alike, rising, Gap, gap, its-place, inserted-sorted}
 use Rattle.search.proofs.Complete.{Rising, Ends, search-ends}
-use Rattle.keys.specs.Key.{Key, number, name, compareℤ, compareBytes, compareKeys, keyAt, putCells, putName, probe, seekKey}
+use Rattle.keys.specs.Key.{Key, number, name, compareBytes, compareKeys, keyAt, putCells, putName, probe, seekKey}
+use Rattle.search.specs.Seek.{compareℤ}
 use Rattle.keys.proofs.CodecLaws.{cells-kept, name-kept}
 
 -- ---- numbers

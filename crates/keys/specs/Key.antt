@@ -6,14 +6,13 @@ use lib.Dec.{eqb}
 use lib.IntN.{ℤ}
 use lib.ListN.{getD, take, drop}
 use lib.Seq.{sets}
-use lib.Signed.{ltZ}
 use Rattle.limits.specs.declared.Stop.{Stop}
 use Rattle.limits.specs.Metered.{Metered}
 use Rattle.limits.specs.Meter.{Meter}
 use Rattle.cells.specs.Cells.{ofCell}
 use Rattle.search.specs.declared.Ordering.{Ordering}
 use Rattle.search.specs.declared.Ordering.the-variants.{Less, Equal, Greater}
-use Rattle.search.specs.Seek.{Place, by, compareℕ, seek}
+use Rattle.search.specs.Seek.{Place, by, compareℕ, compareℤ, seek}
 
 -- "a key is a signed 32-bit number or a name of 0 to 64 bytes"
 pub data Key : Type 0 where
@@ -21,9 +20,6 @@ pub data Key : Type 0 where
   name : List ℕ → Key
 
 -- ---- "Numbers precede names; numbers go by value, names by bytes, a proper prefix first"
-
-abbrev pub compareℤ : ℤ → ℤ → Ordering
-compareℤ a b = cond (ltZ a b) Less (cond (ltZ b a) Greater Equal)
 
 unfoldable pub compareBytes : List ℕ → List ℕ → Ordering
 compareBytes [] [] = Equal

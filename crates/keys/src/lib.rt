@@ -3,21 +3,15 @@ use limits::Charged;
 use limits::Resource;
 use limits::Stop;
 use search::Ordering;
+use search::Sought;
 ghost use mathlib.Core.Path.{_≡_};
 ghost use Prim.Native.Nat.{min};
 ghost use lib.ListN.{set};
 ghost use Rattle.integers.specs.Lists.{inserted};
-ghost use Rattle.keys.specs.Key.{compareℤ, compareBytes, compareKeys, nameAt, kindAt, payloadAt, keyAt, putCells, putName, keyOf, seekKey};
-ghost use Rattle.keys.specs.Answers.{Seeks};
+ghost use Rattle.keys.specs.Key.{compareBytes, compareKeys, nameAt, kindAt, payloadAt, keyAt, putCells, putName, keyOf, seekKey};
+ghost use Rattle.search.specs.Seek.{compareℤ};
+ghost use Rattle.search.specs.Answers.{Seeks};
 
-// The place of a key in the key order, or where it would stand, with the work after the search.
-pub enum Sought {
-    Found(usize, u64),
-    Absent(usize, u64),
-    Stopped(Stop, u64),
-}
-
-// By value.
 pub fn compare_numbers(a: i32, b: i32) -> Ordering
     ensures { λ r. ⌜ r ≡ compareℤ a b ⌝ }
 {

@@ -2,7 +2,7 @@
 use borrow.Author.Needs.{needs}
 use denote.Ref.{now}
 use Rattle.integers.proofs.Bits.{sf32, read₂}
-use Rattle.keys.specs.Key.{compareℤ}
+use Rattle.search.specs.Seek.{compareℤ}
 use Rattle.keys.proofs.CodeLaws.{number-name, number-number, name-name, name-number}
 use Rattle.keys.proofs.compare_at.Statement.{statement}
 use Rattle.keys.proofs.compare_at.Tie as tie
