@@ -10,7 +10,7 @@ use lib.IntN.{ℤ, pos, _+ℤ_, _-ℤ_}
 use lib.ListN.{length, getD}
 use lib.Signed.{ltZ}
 use Rattle.integers.specs.Order.{up, Lt, eqZ, Number, number?}
-use Rattle.integers.proofs.OrderLaws.{lt-yes, lt-no, yes-lt, no-lt, eq-yes, no-eq, yes-eq, le-antisym, yes-number}
+use Rattle.integers.proofs.OrderLaws.{number-yes, lt-yes, lt-no, yes-lt, no-lt, eq-yes, no-eq, yes-eq, le-antisym, yes-number}
 use Rattle.limits.specs.declared.Stop.{Stop}
 use Rattle.limits.specs.Metered.{Run, going, stopped, Metered, pure, after, _>>=_, _>>_}
 use Rattle.search.specs.declared.Ordering.the-variants.{Less, Equal, Greater}
@@ -190,17 +190,22 @@ module _ (New : ℤ → Type 0) (v : ℤ) (named : New v) (s : Entry) (r : Rises
       )
   left (refused c) = kept-none s r refl refl c 1
 
-  -- v stands afterwards, if nothing was refused
-  pub enter-keeps : Ending (λ s′. Kept New 1 s s′ × Has s′ v) (Kept New 1 s) (enter v s)
-  enter-keeps = left (enter-leaves v s)
+  enter-in : Ending (λ s′. Kept New 1 s s′ × Has s′ v) (Kept New 1 s) (enter v s)
+  enter-in = left (enter-leaves v s)
 
-  pub number-keeps : Ending (λ s′. Kept New 1 s s′ × (Number v → Has s′ v)) (Kept New 1 s) (enterNumber v s)
-  unfolding enterNumber pure
-  number-keeps = go (number? v) refl
-    where
-      go : (t : Bool) → number? v ≡ t → Ending (λ s′. Kept New 1 s s′ × (Number v → Has s′ v)) (Kept New 1 s) (cond t (enter v) (λ (u : Entry). going tt u) s)
-      go true e = ending-as (enter v s) enter-keeps (λ s′ h. (h .0, λ _. h .1)) (λ s′ h. h)
-      go false e = (kept-none s r refl refl (charging-none (s .budget)) 1, λ n. let f = yes-number v n in let y : _≡_ {A = ℕ} 0 1 = cc in absurd (omega arith))
+number-in : (New : ℤ → Type 0) (v : ℤ) → (Number v → New v) → (s : Entry) → Rises (s .count) (s .table) → s .count < length (s .table) →
+    Ending (λ s′. Kept New 1 s s′ × (Number v → Has s′ v)) (Kept New 1 s) (enterNumber v s)
+unfolding enterNumber pure
+number-in New v named s r g = go (number? v) refl
+  where
+    go : (t : Bool) → number? v ≡ t → Ending (λ s′. Kept New 1 s s′ × (Number v → Has s′ v)) (Kept New 1 s) (cond t (enter v) (λ (u : Entry). going tt u) s)
+    go true e = ending-as (enter v s) (enter-in New v (named (number-yes v e)) s r g) (λ s′ h. (h .0, λ _. h .1)) (λ s′ h. h)
+    go false e = (kept-none s r refl refl (charging-none (s .budget)) 1, λ n. let f = yes-number v n in let y : _≡_ {A = ℕ} 0 1 = cc in absurd (omega arith))
+
+-- v stands afterwards, if nothing was refused, and nothing but v is new
+pub enter-keeps : (v : ℤ) (s : Entry) → Rises (s .count) (s .table) → s .count < length (s .table) →
+    Ending (λ s′. Kept (λ z. z ≡ v) 1 s s′ × Has s′ v) (Kept (λ z. z ≡ v) 1 s) (enter v s)
+enter-keeps v s r g = enter-in (λ z. z ≡ v) v refl s r g
 
 -- a refused `enter` changes the budget alone
 pub enter-stopped : (v : ℤ) (s : Entry) → Ending (λ _. Unit {0}) (λ s′. (s′ .count ≡ s .count) × (s′ .table ≡ s .table)) (enter v s)
@@ -211,31 +216,34 @@ enter-stopped v s = go (enter-leaves v s)
     go (new c k l) = tt
     go (refused c) = (refl, refl)
 
--- whatever the table holds, nothing is charged but work and links
-abbrev pub Pays : Entry → Entry → Type 0
-Pays s s′ = Charging (s .budget) (s′ .budget)
+-- whatever the table holds: nothing is charged but work and links, and at most n numbers are new
+abbrev pub Grows : ℕ → Entry → Entry → Type 0
+Grows n s s′ = Charging (s .budget) (s′ .budget) × (s .count ≤ s′ .count) × (s′ .count ≤ s .count + n)
 
-pub enter-charges : (v : ℤ) (s : Entry) → Ending (Pays s) (Pays s) (enter v s)
-enter-charges v s = go (enter-leaves v s)
+pub enter-grows : (v : ℤ) (s : Entry) → Ending (Grows 1 s) (Grows 1 s) (enter v s)
+enter-grows v s = go (enter-leaves v s)
   where
-    go : {x : Run Stop Entry (Unit {0})} → Leaves v s x → Ending (Pays s) (Pays s) x
-    go (standing c k l) = c
-    go (new c k l) = c
-    go (refused c) = c
+    go : {x : Run Stop Entry (Unit {0})} → Leaves v s x → Ending (Grows 1 s) (Grows 1 s) x
+    go (standing c k l) = (c, omega arith, omega arith)
+    go (new c k l) = (c, omega arith, omega arith)
+    go (refused c) = (c, omega arith, omega arith)
 
-number-charges : (v : ℤ) (s : Entry) → Ending (Pays s) (Pays s) (enterNumber v s)
+number-grows : (v : ℤ) (s : Entry) → Ending (Grows 1 s) (Grows 1 s) (enterNumber v s)
 unfolding enterNumber pure
-number-charges v s = go (number? v)
+number-grows v s = go (number? v)
   where
-    go : (t : Bool) → Ending (Pays s) (Pays s) (cond t (enter v) (λ (u : Entry). going tt u) s)
-    go true = enter-charges v s
-    go false = charging-none (s .budget)
+    go : (t : Bool) → Ending (Grows 1 s) (Grows 1 s) (cond t (enter v) (λ (u : Entry). going tt u) s)
+    go true = enter-grows v s
+    go false = (charging-none (s .budget), omega arith, omega arith)
+
+grows-more : (a b c : ℕ) (s s₁ s₂ : Entry) → a + b ≤ c → Grows a s s₁ → Grows b s₁ s₂ → Grows c s s₂
+grows-more a b c s s₁ s₂ e h k = (charging-more (h .0) (k .0), omega (arith, h .1, k .1), omega (arith, h .2, k .2))
 
 -- ---- `around`
 
--- z is v or next to it
+-- z is v, or next to it and of 32 bits
 abbrev pub Near : ℤ → ℤ → Type 0
-Near v z = (z ≡ v -ℤ pos 1) ⊎ ((z ≡ v) ⊎ (z ≡ v +ℤ pos 1))
+Near v z = (Number z × (z ≡ v -ℤ pos 1)) ⊎ ((z ≡ v) ⊎ (Number z × (z ≡ v +ℤ pos 1)))
 
 -- v stands, and so do its neighbours of 32 bits
 abbrev pub Surrounded : ℤ → Entry → Type 0
@@ -245,23 +253,26 @@ pub around-keeps : (v : ℤ) (s : Entry) → Rises (s .count) (s .table) → s .
     Ending (λ s′. Kept (Near v) 3 s s′ × Surrounded v s′) (Kept (Near v) 3 s) (around v s)
 unfolding around _>>_ _>>=_
 around-keeps v s r g =
-    ending-then (λ s′. Kept (Near v) 3 s s′ × Surrounded v s′) (Kept (Near v) 3 s) (enter v >> enterNumber (v +ℤ pos 1)) (enterNumber (v -ℤ pos 1) s) (number-keeps (Near v) (v -ℤ pos 1) (inl refl) s r (omega arith))
+    ending-then (λ s′. Kept (Near v) 3 s s′ × Surrounded v s′) (Kept (Near v) 3 s) (enter v >> enterNumber (v +ℤ pos 1)) (enterNumber (v -ℤ pos 1) s) (number-in (Near v) (v -ℤ pos 1) (λ n. inl (n, refl)) s r (omega arith))
     (λ s₁ h.
-    ending-then (λ s′. Kept (Near v) 3 s s′ × Surrounded v s′) (Kept (Near v) 3 s) (enterNumber (v +ℤ pos 1)) (enter v s₁) (enter-keeps (Near v) v (inr (inl refl)) s₁ (h .0 .rises) (omega (arith, h .0 .most, h .0 .size)))
+    ending-then (λ s′. Kept (Near v) 3 s s′ × Surrounded v s′) (Kept (Near v) 3 s) (enterNumber (v +ℤ pos 1)) (enter v s₁) (enter-in (Near v) v (inr (inl refl)) s₁ (h .0 .rises) (omega (arith, h .0 .most, h .0 .size)))
     (λ s₂ k.
-    ending-as (enterNumber (v +ℤ pos 1) s₂) (number-keeps (Near v) (v +ℤ pos 1) (inr (inr refl)) s₂ (k .0 .rises) (omega (arith, h .0 .most, h .0 .size, k .0 .most, k .0 .size)))
+    ending-as (enterNumber (v +ℤ pos 1) s₂) (number-in (Near v) (v +ℤ pos 1) (λ n. inr (inr (n, refl))) s₂ (k .0 .rises) (omega (arith, h .0 .most, h .0 .size, k .0 .most, k .0 .size)))
     (λ s₃ l.
     (roomier (omega arith) (kept-more (kept-more (h .0) (k .0)) (l .0)), (l .0 .old v (k .1), (λ n. l .0 .old (v -ℤ pos 1) (k .0 .old (v -ℤ pos 1) (h .1 n))), l .1)))
     (λ s₃ l. roomier (omega arith) (kept-more (kept-more (h .0) (k .0)) l)))
     (λ s₂ k. roomier (omega arith) (kept-more (h .0) k)))
     (λ s₁ h. roomier (omega arith) h)
 
-pub around-charges : (v : ℤ) (s : Entry) → Ending (Pays s) (Pays s) (around v s)
+pub around-grows : (v : ℤ) (s : Entry) → Ending (Grows 3 s) (Grows 3 s) (around v s)
 unfolding around _>>_ _>>=_
-around-charges v s =
-    ending-then (Pays s) (Pays s) (enter v >> enterNumber (v +ℤ pos 1)) (enterNumber (v -ℤ pos 1) s) (number-charges (v -ℤ pos 1) s)
+around-grows v s =
+    ending-then (Grows 3 s) (Grows 3 s) (enter v >> enterNumber (v +ℤ pos 1)) (enterNumber (v -ℤ pos 1) s) (number-grows (v -ℤ pos 1) s)
     (λ s₁ h.
-    ending-then (Pays s) (Pays s) (enterNumber (v +ℤ pos 1)) (enter v s₁) (enter-charges v s₁)
-    (λ s₂ k. ending-as (enterNumber (v +ℤ pos 1) s₂) (number-charges (v +ℤ pos 1) s₂) (λ s₃ l. charging-more h (charging-more k l)) (λ s₃ l. charging-more h (charging-more k l)))
-    (λ s₂ k. charging-more h k))
-    (λ s₁ h. h)
+    ending-then (Grows 3 s) (Grows 3 s) (enterNumber (v +ℤ pos 1)) (enter v s₁) (enter-grows v s₁)
+    (λ s₂ k. ending-as (enterNumber (v +ℤ pos 1) s₂) (number-grows (v +ℤ pos 1) s₂) (λ s₃ l. both s₁ h s₂ k s₃ l) (λ s₃ l. both s₁ h s₂ k s₃ l))
+    (λ s₂ k. grows-more 1 1 3 s s₁ s₂ (omega arith) h k))
+    (λ s₁ h. (h .0, h .1, omega (arith, h .2)))
+  where
+    both : (s₁ : Entry) → Grows 1 s s₁ → (s₂ : Entry) → Grows 1 s₁ s₂ → (s₃ : Entry) → Grows 1 s₂ s₃ → Grows 3 s s₃
+    both s₁ h s₂ k s₃ l = grows-more 2 1 3 s s₂ s₃ (omega arith) (grows-more 1 1 2 s s₁ s₂ (omega arith) h k) l
