@@ -3,6 +3,7 @@ use Prim.Native.Nat.{ℕ, zero, suc, _+_, _-_, _≤_, _<_}
 use native.Mathlib.Omega.{arith}
 use mathlib.Core.Path.{_≡_, refl, sym, subst, _∙_}
 use mathlib.Core.Bool.{Bool, true, false, cond}
+use lib.Dec.{ltb}
 use lib.IntN.{ℤ}
 use Rattle.integers.specs.Order.{number?}
 use Rattle.limits.specs.declared.Resource.the-variants.{Work, Links}
@@ -22,7 +23,6 @@ use Rattle.search.specs.declared.Ordering.{Ordering}
 use Rattle.search.specs.declared.Ordering.the-variants.{Less, Equal, Greater}
 use Rattle.search.specs.Seek.{Place, found, absent, by, middle, seek}
 use Rattle.search.proofs.Complete.{Rising, Ends, Within, search-ends, seek-within}
-use lib.Dec.{ltb}
 use Rattle.thresholds.specs.Thresholds.{Entry, entry, against, inserted, cost, insert, settle, enter, enterNumber}
 
 -- all that the two budgets share: the limits, and every count but work and links

@@ -25,7 +25,9 @@ enum-known-low : tie.Need-enum-known-low
 enum-known-low c = search needs
 
 sub-cells : tie.Need-sub-cells
-sub-cells c = place-within (c .before .before .before .before .before .before .before .args .value) (c .before .before .before .before .before .before .before .args .budget) (c .before .before .before .before .before .before .before .args .count) (now (c .before .before .before .before .before .before .before .args .table)) (rw (toZ-ofZ (c .before .before .before .before .before .before .before .fits .value)) at (c .before .before .before .seek-number .ensures)) (c .before .low .given .1)
+sub-cells c =
+    let a = c .before .before .before .before .before .before .before in
+    place-within (a .args .value) (a .args .budget) (a .args .count) (now (a .args .table)) (rw (toZ-ofZ (a .fits .value)) at (c .before .before .before .seek-number .ensures)) (c .before .low .given .1)
 
 add-cells : tie.Need-add-cells
 add-cells c = search needs
@@ -43,7 +45,9 @@ enum-known-b : tie.Need-enum-known-b
 enum-known-b c = search needs
 
 insert-number-requires : tie.Need-insert-number-requires
-insert-number-requires c κs = (place-within (c .before .before .before .before .before .before .before .before .before .before .before .before .before .args .value) (c .before .before .before .before .before .before .before .before .before .before .before .before .before .args .budget) (c .before .before .before .before .before .before .before .before .before .before .before .before .before .args .count) (now (c .before .before .before .before .before .before .before .before .before .before .before .before .before .args .table)) (rw (toZ-ofZ (c .before .before .before .before .before .before .before .before .before .before .before .before .before .fits .value)) at (c .before .before .before .before .before .before .before .before .before .seek-number .ensures)) (c .before .before .before .before .before .before .before .low .given .1), c .before .before .before .before .before .before .before .before .before .before .before .before .before .pre)
+insert-number-requires c κs =
+    let a = c .before .before .before .before .before .before .before .before .before .before .before .before .before in
+    (place-within (a .args .value) (a .args .budget) (a .args .count) (now (a .args .table)) (rw (toZ-ofZ (a .fits .value)) at (c .before .before .before .before .before .before .before .before .before .seek-number .ensures)) (c .before .before .before .before .before .before .before .low .given .1), a .pre)
 
 add-more : tie.Need-add-more
 add-more c = search needs
@@ -52,25 +56,33 @@ same-length : tie.Need-same-length
 same-length c = search needs
 
 returns : tie.Need-returns
-returns c = enter-found (c .before .before .before .before .before .before .before .before .args .value) (c .before .before .before .before .before .before .before .before .args .budget) (c .before .before .before .before .before .before .before .before .args .count) (now (c .before .before .before .before .before .before .before .before .args .table)) (rw (toZ-ofZ (c .before .before .before .before .before .before .before .before .fits .value)) at (c .before .before .before .before .seek-number .ensures)) (c .before .before .work .given .1) (c .with-work .ensures)
+returns c =
+    let a = c .before .before .before .before .before .before .before .before in
+    enter-found (a .args .value) (a .args .budget) (a .args .count) (now (a .args .table)) (rw (toZ-ofZ (a .fits .value)) at (c .before .before .before .before .seek-number .ensures)) (c .before .before .work .given .1) (c .with-work .ensures)
 
 same-length-2 : tie.Need-same-length-2
 same-length-2 c = search needs
 
 returns-2 : tie.Need-returns-2
-returns-2 c = enter-halted (c .before .before .before .before .before .before .before .before .args .value) (c .before .before .before .before .before .before .before .before .args .budget) (c .before .before .before .before .before .before .before .before .args .count) (now (c .before .before .before .before .before .before .before .before .args .table)) (rw (toZ-ofZ (c .before .before .before .before .before .before .before .before .fits .value)) at (c .before .before .before .before .seek-number .ensures)) (c .before .before .stop .given .1) (c .with-work2 .ensures)
+returns-2 c =
+    let a = c .before .before .before .before .before .before .before .before in
+    enter-halted (a .args .value) (a .args .budget) (a .args .count) (now (a .args .table)) (rw (toZ-ofZ (a .fits .value)) at (c .before .before .before .before .seek-number .ensures)) (c .before .before .stop .given .1) (c .with-work2 .ensures)
 
 same-length-3 : tie.Need-same-length-3
 same-length-3 c = search needs
 
 returns-3 : tie.Need-returns-3
-returns-3 c = enter-unpaid (c .before .before .before .before .before .before .before .before .before .before .before .before .args .value) (c .before .before .before .before .before .before .before .before .before .before .before .before .args .budget) (c .before .before .before .before .before .before .before .before .before .before .before .before .args .count) (now (c .before .before .before .before .before .before .before .before .before .before .before .before .args .table)) (rw (toZ-ofZ (c .before .before .before .before .before .before .before .before .before .before .before .before .fits .value)) at (c .before .before .before .before .before .before .before .before .seek-number .ensures)) (c .before .before .before .before .before .before .low .given .1) (c .before .before .before .before .with-work3 .ensures) (c .before .before .before .pay .ensures) (c .before .stop2 .given .1)
+returns-3 c =
+    let a = c .before .before .before .before .before .before .before .before .before .before .before .before in
+    enter-unpaid (a .args .value) (a .args .budget) (a .args .count) (now (a .args .table)) (rw (toZ-ofZ (a .fits .value)) at (c .before .before .before .before .before .before .before .before .seek-number .ensures)) (c .before .before .before .before .before .before .low .given .1) (c .before .before .before .before .with-work3 .ensures) (c .before .before .before .pay .ensures) (c .before .stop2 .given .1)
 
 same-length-4 : tie.Need-same-length-4
 same-length-4 c = search needs
 
 returns-4 : tie.Need-returns-4
-returns-4 c = enter-new (c .before .before .before .before .before .before .before .before .before .before .before .before .before .before .before .args .value) (c .before .before .before .before .before .before .before .before .before .before .before .before .before .before .before .args .budget) (c .before .before .before .before .before .before .before .before .before .before .before .before .before .before .before .args .count) (now (c .before .before .before .before .before .before .before .before .before .before .before .before .before .before .before .args .table)) (rw (toZ-ofZ (c .before .before .before .before .before .before .before .before .before .before .before .before .before .before .before .fits .value)) at (c .before .before .before .before .before .before .before .before .before .before .before .seek-number .ensures)) (c .before .before .before .before .before .before .before .before .before .low .given .1) (c .before .before .before .before .before .before .before .with-work3 .ensures) (c .before .before .before .before .before .before .pay .ensures) (c .before .before .before .before .b .given .1) (rw (toZ-ofZ (c .before .before .before .before .before .before .before .before .before .before .before .before .before .before .before .fits .value)) at (c .before .insert-number .ensures))
+returns-4 c =
+    let a = c .before .before .before .before .before .before .before .before .before .before .before .before .before .before .before in
+    enter-new (a .args .value) (a .args .budget) (a .args .count) (now (a .args .table)) (rw (toZ-ofZ (a .fits .value)) at (c .before .before .before .before .before .before .before .before .before .before .before .seek-number .ensures)) (c .before .before .before .before .before .before .before .before .before .low .given .1) (c .before .before .before .before .before .before .before .with-work3 .ensures) (c .before .before .before .before .before .before .pay .ensures) (c .before .before .before .before .b .given .1) (rw (toZ-ofZ (a .fits .value)) at (c .before .insert-number .ensures))
 
 pub enter-spec : {M : Type 1} → statement M
 enter-spec =

@@ -20,8 +20,9 @@ enum-known-b c = search needs
 
 enter-requires : tie.Need-enter-requires
 enter-requires c κs =
-    let g = number-grown _ (entry (c .before .before .before .before .before .before .before .args .budget) (c .before .before .before .before .before .before .before .args .count) (now (c .before .before .before .before .before .before .before .args .table))) (went (c .before .before .b .given .1) (rw (toZ-ofZ (c .before .before .before .before .before .before .before .fits .value)) at (c .before .before .before .before .before .enter-below .ensures))) in
-    omega (arith, g, c .before .before .before .before .before .before .before .pre, c .before .before .before .before .table .given)
+    let a = c .before .before .before .before .before .before .before in
+    let g = number-grown _ (entry (a .args .budget) (a .args .count) (now (a .args .table))) (went (c .before .before .b .given .1) (rw (toZ-ofZ (a .fits .value)) at (c .before .before .before .before .before .enter-below .ensures))) in
+    omega (arith, g, a .pre, c .before .before .before .before .table .given)
 
 enum-known-stop-2 : tie.Need-enum-known-stop-2
 enum-known-stop-2 c = search needs
@@ -31,27 +32,34 @@ enum-known-c c = search needs
 
 enter-above-requires : tie.Need-enter-above-requires
 enter-above-requires c κs =
-    let g = number-grown _ (entry (c .before .before .before .before .before .before .before .before .before .before .before .before .before .args .budget) (c .before .before .before .before .before .before .before .before .before .before .before .before .before .args .count) (now (c .before .before .before .before .before .before .before .before .before .before .before .before .before .args .table))) (went (c .before .before .before .before .before .before .before .before .b .given .1) (rw (toZ-ofZ (c .before .before .before .before .before .before .before .before .before .before .before .before .before .fits .value)) at (c .before .before .before .before .before .before .before .before .before .before .before .enter-below .ensures))) in
-    let h = enter-grown _ _ (went (c .before .before .c .given .1) (rw (toZ-ofZ (c .before .before .before .before .before .before .before .before .before .before .before .before .before .fits .value)) at (c .before .before .before .before .before .enter .ensures))) in
-    omega (arith, g, h, c .before .before .before .before .before .before .before .before .before .before .before .before .before .pre, c .before .before .before .before .before .before .before .before .before .before .table .given, c .before .before .before .before .table2 .given)
+    let a = c .before .before .before .before .before .before .before .before .before .before .before .before .before in
+    let g = number-grown _ (entry (a .args .budget) (a .args .count) (now (a .args .table))) (went (c .before .before .before .before .before .before .before .before .b .given .1) (rw (toZ-ofZ (a .fits .value)) at (c .before .before .before .before .before .before .before .before .before .before .before .enter-below .ensures))) in
+    let h = enter-grown _ _ (went (c .before .before .c .given .1) (rw (toZ-ofZ (a .fits .value)) at (c .before .before .before .before .before .enter .ensures))) in
+    omega (arith, g, h, a .pre, c .before .before .before .before .before .before .before .before .before .before .table .given, c .before .before .before .before .table2 .given)
 
 same-length : tie.Need-same-length
 same-length c = search needs
 
 returns : tie.Need-returns
-returns c = around-first (c .before .before .before .before .before .before .args .value) (entry (c .before .before .before .before .before .before .args .budget) (c .before .before .before .before .before .before .args .count) (now (c .before .before .before .before .before .before .args .table))) (halted (c .before .stop .given .1) (rw (toZ-ofZ (c .before .before .before .before .before .before .fits .value)) at (c .before .before .before .before .enter-below .ensures)))
+returns c =
+    let a = c .before .before .before .before .before .before in
+    around-first (a .args .value) (entry (a .args .budget) (a .args .count) (now (a .args .table))) (halted (c .before .stop .given .1) (rw (toZ-ofZ (a .fits .value)) at (c .before .before .before .before .enter-below .ensures)))
 
 same-length-2 : tie.Need-same-length-2
 same-length-2 c = search needs
 
 returns-2 : tie.Need-returns-2
-returns-2 c = around-second (c .before .before .before .before .before .before .before .before .before .before .before .before .args .value) (entry (c .before .before .before .before .before .before .before .before .before .before .before .before .args .budget) (c .before .before .before .before .before .before .before .before .before .before .before .before .args .count) (now (c .before .before .before .before .before .before .before .before .before .before .before .before .args .table))) (went (c .before .before .before .before .before .before .before .b .given .1) (rw (toZ-ofZ (c .before .before .before .before .before .before .before .before .before .before .before .before .fits .value)) at (c .before .before .before .before .before .before .before .before .before .before .enter-below .ensures))) (halted (c .before .stop2 .given .1) (rw (toZ-ofZ (c .before .before .before .before .before .before .before .before .before .before .before .before .fits .value)) at (c .before .before .before .before .enter .ensures)))
+returns-2 c =
+    let a = c .before .before .before .before .before .before .before .before .before .before .before .before in
+    around-second (a .args .value) (entry (a .args .budget) (a .args .count) (now (a .args .table))) (went (c .before .before .before .before .before .before .before .b .given .1) (rw (toZ-ofZ (a .fits .value)) at (c .before .before .before .before .before .before .before .before .before .before .enter-below .ensures))) (halted (c .before .stop2 .given .1) (rw (toZ-ofZ (a .fits .value)) at (c .before .before .before .before .enter .ensures)))
 
 same-length-3 : tie.Need-same-length-3
 same-length-3 c = search needs
 
 returns-3 : tie.Need-returns-3
-returns-3 c = around-third (c .before .before .before .before .before .before .before .before .before .before .before .before .before .before .before .args .value) (entry (c .before .before .before .before .before .before .before .before .before .before .before .before .before .before .before .args .budget) (c .before .before .before .before .before .before .before .before .before .before .before .before .before .before .before .args .count) (now (c .before .before .before .before .before .before .before .before .before .before .before .before .before .before .before .args .table))) (went (c .before .before .before .before .before .before .before .before .before .before .b .given .1) (rw (toZ-ofZ (c .before .before .before .before .before .before .before .before .before .before .before .before .before .before .before .fits .value)) at (c .before .before .before .before .before .before .before .before .before .before .before .before .before .enter-below .ensures))) (went (c .before .before .before .before .c .given .1) (rw (toZ-ofZ (c .before .before .before .before .before .before .before .before .before .before .before .before .before .before .before .fits .value)) at (c .before .before .before .before .before .before .before .enter .ensures))) (rw (toZ-ofZ (c .before .before .before .before .before .before .before .before .before .before .before .before .before .before .before .fits .value)) at (c .before .enter-above .ensures))
+returns-3 c =
+    let a = c .before .before .before .before .before .before .before .before .before .before .before .before .before .before .before in
+    around-third (a .args .value) (entry (a .args .budget) (a .args .count) (now (a .args .table))) (went (c .before .before .before .before .before .before .before .before .before .before .b .given .1) (rw (toZ-ofZ (a .fits .value)) at (c .before .before .before .before .before .before .before .before .before .before .before .before .before .enter-below .ensures))) (went (c .before .before .before .before .c .given .1) (rw (toZ-ofZ (a .fits .value)) at (c .before .before .before .before .before .before .before .enter .ensures))) (rw (toZ-ofZ (a .fits .value)) at (c .before .enter-above .ensures))
 
 pub enter-around-spec : {M : Type 1} → statement M
 enter-around-spec =
