@@ -1,17 +1,16 @@
 -- What the code's answers are, over plain variables: one law for each way out of a step.
-use Prim.Native.Nat.{ℕ, zero, suc, _+_, _-_, _≤_, _<_}
+use Prim.Native.Nat.{ℕ, zero, suc, _+_, _-_, _≤_}
 use native.Mathlib.Omega.{arith}
-use mathlib.Core.Path.{_≡_, refl, sym, ap, subst, _∙_}
+use mathlib.Core.Path.{_≡_, sym, ap, _∙_}
 use mathlib.Core.Bool.{true, false}
 use mathlib.Core.List.{List}
 use lib.IntN.{ℤ, pos, negsuc, _+ℤ_, _-ℤ_}
-use lib.ListN.{getD}
 use lib.Signed.{ltZ}
 use borrow.Author.Tests.{lt-ltb, le-ltb}
 use mir.Syntax.{w32}
 use mir.Val.{SFits, toZ, ofZ}
 use mir.Facts.{toZ-ofZ}
-use Rattle.integers.specs.Order.{eqZ, number?}
+use Rattle.integers.specs.Order.{number?}
 use Rattle.integers.proofs.Bits.{same-bits, sf32, fits-number, lt-at}
 use Rattle.integers.proofs.OrderLaws.{yes-eq, no-eq, yes-number, too-low, too-high}
 use Rattle.limits.specs.declared.Resource.the-variants.{Work}
@@ -21,12 +20,12 @@ use Rattle.limits.specs.declared.Statistics.{Statistics}
 use Rattle.limits.specs.declared.Billed.{Billed}
 use Rattle.limits.specs.declared.Billed.the-variants as bill
 use Rattle.limits.specs.Records.{withCount, withStatistics}
-use Rattle.limits.specs.Metered.{Run, going, stopped, Metered, pure, after, _>>=_, _>>_, through, mapped}
-use Rattle.limits.specs.Meter.{Meter, meter, meterOf, metered}
+use Rattle.limits.specs.Metered.{Run, going, stopped, pure, after, _>>=_, _>>_, through, mapped}
+use Rattle.limits.specs.Meter.{meter, meterOf}
 use Rattle.limits.specs.Budget.{work, links, ran}
 use Rattle.limits.proofs.Monad.{then-stop, then-on}
 use Rattle.search.specs.declared.Ordering.the-variants.{Less, Equal, Greater}
-use Rattle.search.specs.Seek.{Place, found, absent, seek}
+use Rattle.search.specs.Seek.{seek}
 use Rattle.search.proofs.Complete.{absent-within}
 use Rattle.thresholds.specs.declared.Sought.{Sought}
 use Rattle.thresholds.specs.declared.Sought.the-variants.{Found, Absent}

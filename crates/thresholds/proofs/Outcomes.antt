@@ -3,10 +3,9 @@ use Prim.Native.Nat.{ℕ, zero, suc, _+_, _-_, _≤_, _<_}
 use native.Mathlib.Omega.{arith}
 use mathlib.Core.Path.{_≡_, refl, sym, subst, _∙_}
 use mathlib.Core.Bool.{Bool, true, false, cond}
-use mathlib.Core.List.{List}
-use lib.IntN.{ℤ, pos, _+ℤ_, _-ℤ_}
+use lib.Dec.{ltb}
+use lib.IntN.{ℤ}
 use Rattle.integers.specs.Order.{number?}
-use Rattle.limits.specs.declared.Resource.{Resource}
 use Rattle.limits.specs.declared.Resource.the-variants.{Work, Links}
 use Rattle.limits.specs.declared.Stop.{Stop}
 use Rattle.limits.specs.declared.Budget.{Budget}
@@ -15,16 +14,15 @@ use Rattle.limits.specs.declared.Charged.the-variants.{Paid, Stopped}
 use Rattle.limits.specs.Charge.{chargeOf}
 use Rattle.limits.specs.Records.{countOf, limitOf}
 use Rattle.limits.specs.Metered.{Run, going, stopped, pure, after, _>>=_, _>>_, through, mapped}
-use Rattle.limits.specs.Budget.{charge, charged, work, links}
+use Rattle.limits.specs.Budget.{charge, charged, links}
 use Rattle.limits.specs.Meter.{Meter, meterOf, withMeter}
 use Rattle.limits.specs.Meter as inner
-use Rattle.limits.proofs.Monad.{Holds, Ensures, for-all}
+use Rattle.limits.proofs.Monad.{Holds, for-all}
 use Rattle.limits.proofs.Live.{LiveIn, Lives, live-pure, live-test, live-then, live-work}
 use Rattle.search.specs.declared.Ordering.{Ordering}
 use Rattle.search.specs.declared.Ordering.the-variants.{Less, Equal, Greater}
 use Rattle.search.specs.Seek.{Place, found, absent, by, middle, seek}
 use Rattle.search.proofs.Complete.{Rising, Ends, Within, search-ends, seek-within}
-use lib.Dec.{ltb}
 use Rattle.thresholds.specs.Thresholds.{Entry, entry, against, inserted, cost, insert, settle, enter, enterNumber}
 
 -- all that the two budgets share: the limits, and every count but work and links

@@ -1,69 +1,65 @@
-use Rattle.thresholds.proofs.Outcomes.{enter-grown, number-grown}
-use Rattle.thresholds.proofs.CodeLaws.{went, halted, around-first, around-second, around-third}
-use Rattle.thresholds.specs.Thresholds.{entry}
+-- `thresholds::enter_around` meets its contract.
+use native.Mathlib.Omega.{arith}
+use borrow.Author.Needs.{needs}
 use mir.Facts.{toZ-ofZ}
 use denote.Ref.{now}
-use borrow.Author.Needs.{needs}
-use native.Mathlib.Omega.{arith}
+use Rattle.thresholds.specs.Thresholds.{entry}
+use Rattle.thresholds.proofs.Outcomes.{enter-grown, number-grown}
+use Rattle.thresholds.proofs.CodeLaws.{went, halted, around-first, around-second, around-third}
 use Rattle.thresholds.proofs.enter_around.Statement.{statement}
 use Rattle.thresholds.proofs.enter_around.Tie as tie
-use Rattle.thresholds.proofs.enter_around.Reads as reads
-use Rattle.thresholds.proofs.enter_around.Lts as lts
-use Rattle.thresholds.proofs.enter.Reads as enter-reads
-use Rattle.thresholds.proofs.enter_above.Reads as enter-above-reads
-use Rattle.thresholds.proofs.enter_below.Reads as enter-below-reads
 
--- src/lib.rt:148:11
 enter-below-requires : tie.Need-enter-below-requires
 enter-below-requires c κs = search needs
 
--- src/lib.rt:149:26
 enum-known-stop : tie.Need-enum-known-stop
 enum-known-stop c = search needs
 
--- src/lib.rt:150:23
 enum-known-b : tie.Need-enum-known-b
 enum-known-b c = search needs
 
--- src/lib.rt:150:38
 enter-requires : tie.Need-enter-requires
-enter-requires c κs = let g = number-grown _ (entry (c .before .before .before .before .before .before .before .args .budget) (c .before .before .before .before .before .before .before .args .count) (now (c .before .before .before .before .before .before .before .args .table))) (went (c .before .before .b .given .1) (rw (toZ-ofZ (c .before .before .before .before .before .before .before .fits .value)) at (c .before .before .before .before .before .enter-below .ensures))) in omega (arith, g, c .before .before .before .before .before .before .before .pre, c .before .before .before .before .table .given)
+enter-requires c κs =
+    let a = c .before .before .before .before .before .before .before in
+    let g = number-grown _ (entry (a .args .budget) (a .args .count) (now (a .args .table))) (went (c .before .before .b .given .1) (rw (toZ-ofZ (a .fits .value)) at (c .before .before .before .before .before .enter-below .ensures))) in
+    omega (arith, g, a .pre, c .before .before .before .before .table .given)
 
--- src/lib.rt:151:30
 enum-known-stop-2 : tie.Need-enum-known-stop-2
 enum-known-stop-2 c = search needs
 
--- src/lib.rt:152:27
 enum-known-c : tie.Need-enum-known-c
 enum-known-c c = search needs
 
--- src/lib.rt:152:36
 enter-above-requires : tie.Need-enter-above-requires
-enter-above-requires c κs = let g = number-grown _ (entry (c .before .before .before .before .before .before .before .before .before .before .before .before .before .args .budget) (c .before .before .before .before .before .before .before .before .before .before .before .before .before .args .count) (now (c .before .before .before .before .before .before .before .before .before .before .before .before .before .args .table))) (went (c .before .before .before .before .before .before .before .before .b .given .1) (rw (toZ-ofZ (c .before .before .before .before .before .before .before .before .before .before .before .before .before .fits .value)) at (c .before .before .before .before .before .before .before .before .before .before .before .enter-below .ensures))) in let h = enter-grown _ _ (went (c .before .before .c .given .1) (rw (toZ-ofZ (c .before .before .before .before .before .before .before .before .before .before .before .before .before .fits .value)) at (c .before .before .before .before .before .enter .ensures))) in omega (arith, g, h, c .before .before .before .before .before .before .before .before .before .before .before .before .before .pre, c .before .before .before .before .before .before .before .before .before .before .table .given, c .before .before .before .before .table2 .given)
+enter-above-requires c κs =
+    let a = c .before .before .before .before .before .before .before .before .before .before .before .before .before in
+    let g = number-grown _ (entry (a .args .budget) (a .args .count) (now (a .args .table))) (went (c .before .before .before .before .before .before .before .before .b .given .1) (rw (toZ-ofZ (a .fits .value)) at (c .before .before .before .before .before .before .before .before .before .before .before .enter-below .ensures))) in
+    let h = enter-grown _ _ (went (c .before .before .c .given .1) (rw (toZ-ofZ (a .fits .value)) at (c .before .before .before .before .before .enter .ensures))) in
+    omega (arith, g, h, a .pre, c .before .before .before .before .before .before .before .before .before .before .table .given, c .before .before .before .before .table2 .given)
 
--- src/lib.rt:144:1
 same-length : tie.Need-same-length
 same-length c = search needs
 
--- src/lib.rt:144:1
 returns : tie.Need-returns
-returns c = around-first (c .before .before .before .before .before .before .args .value) (entry (c .before .before .before .before .before .before .args .budget) (c .before .before .before .before .before .before .args .count) (now (c .before .before .before .before .before .before .args .table))) (halted (c .before .stop .given .1) (rw (toZ-ofZ (c .before .before .before .before .before .before .fits .value)) at (c .before .before .before .before .enter-below .ensures)))
+returns c =
+    let a = c .before .before .before .before .before .before in
+    around-first (a .args .value) (entry (a .args .budget) (a .args .count) (now (a .args .table))) (halted (c .before .stop .given .1) (rw (toZ-ofZ (a .fits .value)) at (c .before .before .before .before .enter-below .ensures)))
 
--- src/lib.rt:144:1
 same-length-2 : tie.Need-same-length-2
 same-length-2 c = search needs
 
--- src/lib.rt:144:1
 returns-2 : tie.Need-returns-2
-returns-2 c = around-second (c .before .before .before .before .before .before .before .before .before .before .before .before .args .value) (entry (c .before .before .before .before .before .before .before .before .before .before .before .before .args .budget) (c .before .before .before .before .before .before .before .before .before .before .before .before .args .count) (now (c .before .before .before .before .before .before .before .before .before .before .before .before .args .table))) (went (c .before .before .before .before .before .before .before .b .given .1) (rw (toZ-ofZ (c .before .before .before .before .before .before .before .before .before .before .before .before .fits .value)) at (c .before .before .before .before .before .before .before .before .before .before .enter-below .ensures))) (halted (c .before .stop2 .given .1) (rw (toZ-ofZ (c .before .before .before .before .before .before .before .before .before .before .before .before .fits .value)) at (c .before .before .before .before .enter .ensures)))
+returns-2 c =
+    let a = c .before .before .before .before .before .before .before .before .before .before .before .before in
+    around-second (a .args .value) (entry (a .args .budget) (a .args .count) (now (a .args .table))) (went (c .before .before .before .before .before .before .before .b .given .1) (rw (toZ-ofZ (a .fits .value)) at (c .before .before .before .before .before .before .before .before .before .before .enter-below .ensures))) (halted (c .before .stop2 .given .1) (rw (toZ-ofZ (a .fits .value)) at (c .before .before .before .before .enter .ensures)))
 
--- src/lib.rt:144:1
 same-length-3 : tie.Need-same-length-3
 same-length-3 c = search needs
 
--- src/lib.rt:144:1
 returns-3 : tie.Need-returns-3
-returns-3 c = around-third (c .before .before .before .before .before .before .before .before .before .before .before .before .before .before .before .args .value) (entry (c .before .before .before .before .before .before .before .before .before .before .before .before .before .before .before .args .budget) (c .before .before .before .before .before .before .before .before .before .before .before .before .before .before .before .args .count) (now (c .before .before .before .before .before .before .before .before .before .before .before .before .before .before .before .args .table))) (went (c .before .before .before .before .before .before .before .before .before .before .b .given .1) (rw (toZ-ofZ (c .before .before .before .before .before .before .before .before .before .before .before .before .before .before .before .fits .value)) at (c .before .before .before .before .before .before .before .before .before .before .before .before .before .enter-below .ensures))) (went (c .before .before .before .before .c .given .1) (rw (toZ-ofZ (c .before .before .before .before .before .before .before .before .before .before .before .before .before .before .before .fits .value)) at (c .before .before .before .before .before .before .before .enter .ensures))) (rw (toZ-ofZ (c .before .before .before .before .before .before .before .before .before .before .before .before .before .before .before .fits .value)) at (c .before .enter-above .ensures))
+returns-3 c =
+    let a = c .before .before .before .before .before .before .before .before .before .before .before .before .before .before .before in
+    around-third (a .args .value) (entry (a .args .budget) (a .args .count) (now (a .args .table))) (went (c .before .before .before .before .before .before .before .before .before .before .b .given .1) (rw (toZ-ofZ (a .fits .value)) at (c .before .before .before .before .before .before .before .before .before .before .before .before .before .enter-below .ensures))) (went (c .before .before .before .before .c .given .1) (rw (toZ-ofZ (a .fits .value)) at (c .before .before .before .before .before .before .before .enter .ensures))) (rw (toZ-ofZ (a .fits .value)) at (c .before .enter-above .ensures))
 
 pub enter-around-spec : {M : Type 1} → statement M
 enter-around-spec =

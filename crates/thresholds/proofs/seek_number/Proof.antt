@@ -1,23 +1,21 @@
+-- `thresholds::seek_number` meets its contract.
+use Prim.Native.Nat.{ℕ, _-_, _≤_}
+use native.Mathlib.Omega.{arith}
+use mathlib.Core.Path.{refl}
+use lib.ListN.{length}
+use borrow.Author.Needs.{sfits-of}
+use borrow.Author.Needs.{needs}
+use mir.Val.{toZ}
+use mir.Syntax.{w32}
 use denote.Ref.{now}
-use Rattle.thresholds.proofs.CodeLaws.{is-less, is-equal, is-greater, seeks}
-use Rattle.thresholds.specs.Thresholds.{against}
 use Rattle.limits.proofs.CodeLaws.{work-paid, work-stopped}
 use Rattle.search.proofs.Turns.{At, at-end, at-stop, at-found, at-right, at-left}
 use Rattle.search.specs.Seek.{seek}
 use Rattle.limits.specs.Meter.{meter}
-use borrow.Author.Needs.{sfits-of}
-use mir.Val.{toZ}
-use mir.Syntax.{w32}
-use lib.ListN.{length}
-use mathlib.Core.Path.{refl}
-use Prim.Native.Nat.{ℕ, _+_, _-_, _≤_}
-use borrow.Author.Needs.{needs}
-use native.Mathlib.Omega.{arith}
+use Rattle.thresholds.specs.Thresholds.{against}
+use Rattle.thresholds.proofs.CodeLaws.{is-less, is-equal, is-greater, seeks}
 use Rattle.thresholds.proofs.seek_number.Statement.{statement}
 use Rattle.thresholds.proofs.seek_number.Tie as tie
-use Rattle.thresholds.proofs.seek_number.Reads as reads
-use Rattle.thresholds.proofs.seek_number.Lts as lts
-use Rattle.limits.proofs.charge.Reads as charge-reads
 
 abbrev Inv-loop : tie.InvT-loop
 Inv-loop table count value work max-work low₀ high₀ spent₀ low high spent =
@@ -27,67 +25,51 @@ Inv-loop table count value work max-work low₀ high₀ spent₀ low high spent 
 abbrev μ-loop : tie.MeasureT-loop
 μ-loop table count value work max-work low₀ high₀ spent₀ low high spent = high - low
 
--- src/lib.rt:38:5
 loop-holds : tie.Need-loop-holds Inv-loop μ-loop
 loop-holds c = (search needs, search needs, λ e me. At.here (c .args .count) (omega arith) refl)
 
--- src/lib.rt:39:15
 charge-requires : tie.Need-charge-requires Inv-loop μ-loop
 charge-requires c κs = search needs
 
--- src/lib.rt:40:30
 enum-known-stop : tie.Need-enum-known-stop Inv-loop μ-loop
 enum-known-stop c = search needs
 
--- src/lib.rt:41:17
 returns : tie.Need-returns Inv-loop μ-loop
 returns c = seeks (now (c .before .before .before .before .before .before .args .table)) _ _ _ _ (c .before .before .before .before .before .before .fits .value) (λ e me. at-stop (c .before .before .before .before .before .loop .inv .2 e me) (c .before .before .before .before .loop-test .taken) (work-stopped _ _ e me 1 (c .before .before .before .charge .ensures) (c .before .stop .given .1)))
 
--- src/lib.rt:43:27
 enum-known-now : tie.Need-enum-known-now Inv-loop μ-loop
 enum-known-now c = search needs
 
--- src/lib.rt:47:29
 sub-middle : tie.Need-sub-middle Inv-loop μ-loop
 sub-middle c = search needs
 
--- src/lib.rt:47:22
 add-middle : tie.Need-add-middle Inv-loop μ-loop
 add-middle c = search needs
 
--- src/lib.rt:48:17
 mul-x : tie.Need-mul-x Inv-loop μ-loop
 mul-x c = search needs
 
--- src/lib.rt:48:17
 shared-slice-copy-out-x : tie.Need-shared-slice-copy-out-x Inv-loop μ-loop
 shared-slice-copy-out-x c = search needs
 
--- src/lib.rt:50:19
 add-low : tie.Need-add-low Inv-loop μ-loop
 add-low c = search needs
 
--- src/lib.rt:38:5
 loop-less : tie.Need-loop-less Inv-loop μ-loop
 loop-less c = search needs
 
--- src/lib.rt:38:5
 loop-again : tie.Need-loop-again Inv-loop μ-loop
 loop-again c = (omega arith, omega arith, λ e me. at-right (c .before .before .before .before .before .before .before .loop .inv .2 e me) (c .before .before .before .before .before .before .loop-test .taken) (work-paid _ _ e me 1 (c .before .before .before .before .before .charge .ensures) (c .before .before .before .now .given .1)) (is-less (sfits-of (c .before .x .given)) (c .before .before .before .before .before .before .before .before .fits .value) (c .if1 .taken)))
 
--- src/lib.rt:53:17
 returns-2 : tie.Need-returns-2 Inv-loop μ-loop
 returns-2 c = seeks (now (c .before .before .before .before .before .before .before .before .before .args .table)) _ _ _ _ (c .before .before .before .before .before .before .before .before .before .fits .value) (λ e me. at-found (c .before .before .before .before .before .before .before .before .loop .inv .2 e me) (c .before .before .before .before .before .before .before .loop-test .taken) (work-paid _ _ e me 1 (c .before .before .before .before .before .before .charge .ensures) (c .before .before .before .before .now .given .1)) (is-equal (sfits-of (c .before .before .x .given)) (c .before .before .before .before .before .before .before .before .before .fits .value) (c .before .if1 .left) (c .if2 .taken)))
 
--- src/lib.rt:38:5
 loop-less-2 : tie.Need-loop-less-2 Inv-loop μ-loop
 loop-less-2 c = search needs
 
--- src/lib.rt:38:5
 loop-again-2 : tie.Need-loop-again-2 Inv-loop μ-loop
 loop-again-2 c = (omega arith, omega arith, λ e me. at-left (c .before .before .before .before .before .before .before .before .loop .inv .2 e me) (c .before .before .before .before .before .before .before .loop-test .taken) (work-paid _ _ e me 1 (c .before .before .before .before .before .before .charge .ensures) (c .before .before .before .before .now .given .1)) (is-greater (sfits-of (c .before .before .x .given)) (c .before .before .before .before .before .before .before .before .before .fits .value) (c .before .if1 .left) (c .if2 .left)))
 
--- src/lib.rt:31:1
 returns-3 : tie.Need-returns-3 Inv-loop μ-loop
 returns-3 c = seeks (now (c .before .before .args .table)) _ _ _ _ (c .before .before .fits .value) (λ e me. at-end (c .before .loop .inv .2 e me) (c .loop-test .left))
 
