@@ -7,75 +7,17 @@ use mathlib.Core.Bool.{Bool, true, false}
 use mathlib.Core.List.{List, [], _∷_}
 use lib.IntN.{ℤ}
 use lib.ListN.{length, getD}
-use lib.Signed.{ltZ}
-use Rattle.integers.specs.Order.{Lt}
 use Rattle.integers.specs.Lists.{inserted}
-use Rattle.integers.proofs.OrderLaws.{lt-yes, lt-no, yes-lt, no-lt, le-antisym}
 use Rattle.integers.proofs.ListLaws.{Compared, less, more, same, compared}
 use Rattle.limits.proofs.Monad.{Ensures, weaken}
 use Rattle.search.specs.declared.Ordering.the-variants.{Less, Equal, Greater}
 use Rattle.search.specs.Seek.{found, absent}
 use Rattle.search.proofs.Turns.{is-less, is-greater, is-equal}
 use Rattle.search.proofs.Total.{turn, Total, Sorted, before-turn, after-turn, alike, rising, Gap, gap, its-place, inserted-sorted}
+use Rattle.search.proofs.Integers.{total-ℤ}
 use Rattle.search.proofs.Complete.{Rising, Ends, search-ends}
 use Rattle.keys.specs.Key.{Key, number, name, compareBytes, compareKeys, keyAt, putCells, putName, probe, seekKey}
-use Rattle.search.specs.Seek.{compareℤ}
 use Rattle.keys.proofs.CodecLaws.{cells-kept, name-kept}
-
--- ---- numbers
-
-data Way (a b : ℤ) : Type 0 where
-  lower : Lt a b → Way a b
-  higher : Lt b a → Way a b
-  level : a ≡ b → Way a b
-
-way : (a b : ℤ) → Way a b
-way a b = go (ltZ a b) (ltZ b a) refl refl
-  where
-    go : (t u : Bool) → ltZ a b ≡ t → ltZ b a ≡ u → Way a b
-    go true u p q = lower (lt-yes a b p)
-    go false true p q = higher (lt-yes b a q)
-    go false false p q = level (le-antisym a b (lt-no b a q) (lt-no a b p))
-
-ℤ-less : (a b : ℤ) → Lt a b → compareℤ a b ≡ Less
-ℤ-less a b h = rw (yes-lt a b h)
-
-ℤ-greater : (a b : ℤ) → Lt b a → compareℤ a b ≡ Greater
-ℤ-greater a b h = rw (no-lt a b (omega arith), yes-lt b a h)
-
-ℤ-equal : (a b : ℤ) → a ≡ b → compareℤ a b ≡ Equal
-ℤ-equal a b e = rw e (let h = no-lt b b (omega arith) in rw h)
-
-turned-ℤ : (a b : ℤ) → compareℤ b a ≡ turn (compareℤ a b)
-turned-ℤ a b = go (way a b)
-  where
-    go : Way a b → compareℤ b a ≡ turn (compareℤ a b)
-    go (lower h) = ℤ-greater b a h ∙ sym (ap turn (ℤ-less a b h))
-    go (higher h) = ℤ-less b a h ∙ sym (ap turn (ℤ-greater a b h))
-    go (level h) = ℤ-equal b a (sym h) ∙ sym (ap turn (ℤ-equal a b h))
-
-less-ℤ : (a b : ℤ) → compareℤ a b ≡ Less → Lt a b
-less-ℤ a b e = go (way a b)
-  where
-    go : Way a b → Lt a b
-    go (lower h) = h
-    go (higher h) = let f = sym (ℤ-greater a b h) ∙ e in let z : _≡_ {A = ℕ} 0 1 = cc in absurd (omega arith)
-    go (level h) = let f = sym (ℤ-equal a b h) ∙ e in let z : _≡_ {A = ℕ} 0 1 = cc in absurd (omega arith)
-
-equal-ℤ : (a b : ℤ) → compareℤ a b ≡ Equal → a ≡ b
-equal-ℤ a b e = go (way a b)
-  where
-    go : Way a b → a ≡ b
-    go (lower h) = let f = sym (ℤ-less a b h) ∙ e in let z : _≡_ {A = ℕ} 0 1 = cc in absurd (omega arith)
-    go (higher h) = let f = sym (ℤ-greater a b h) ∙ e in let z : _≡_ {A = ℕ} 0 1 = cc in absurd (omega arith)
-    go (level h) = h
-
-pub total-ℤ : Total compareℤ
-total-ℤ = record {
-  turned = turned-ℤ;
-  trans = λ a b c p q. let h = less-ℤ a b p in let k = less-ℤ b c q in ℤ-less a c (omega arith);
-  equal = equal-ℤ;
-}
 
 -- ---- names
 
@@ -154,7 +96,7 @@ total-bytes = record { turned = turned-bytes; trans = trans-bytes; equal = equal
 -- ---- keys
 
 turned-keys : (a b : Key) → compareKeys b a ≡ turn (compareKeys a b)
-turned-keys (number a) (number b) = turned-ℤ a b
+turned-keys (number a) (number b) = total-ℤ .turned a b
 turned-keys (number a) (name t) = refl
 turned-keys (name s) (number b) = refl
 turned-keys (name s) (name t) = turned-bytes s t
@@ -169,7 +111,7 @@ trans-keys (name a) (name b) (number c) p q = let z : _≡_ {A = ℕ} 0 1 = cc i
 trans-keys (name a) (name b) (name c) p q = trans-bytes a b c p q
 
 equal-keys : (a b : Key) → compareKeys a b ≡ Equal → a ≡ b
-equal-keys (number a) (number b) e = ap number (equal-ℤ a b e)
+equal-keys (number a) (number b) e = ap number (total-ℤ .equal a b e)
 equal-keys (number a) (name t) e = let z : _≡_ {A = ℕ} 0 1 = cc in absurd (omega arith)
 equal-keys (name s) (number b) e = let z : _≡_ {A = ℕ} 0 1 = cc in absurd (omega arith)
 equal-keys (name s) (name t) e = ap name (equal-bytes s t e)
@@ -215,7 +157,7 @@ module _ (names cells order : List ℕ) (count : ℕ) (k : Key) (s : Ordered nam
   pub insert-keeps : (low id : ℕ) → Gap total-keys (keyOfOrder names cells order) count k (absent low) → count < length order → keyAt names cells id ≡ k →
       Ordered names cells (inserted order low count id) (count + 1)
   insert-keeps low id g h e =
-      inserted-sorted total-keys (keyAt names cells) order count low id (g .0) h s (rw e (g .1)) (rw e (g .2))
+      inserted-sorted total-keys (keyAt names cells) 0 order count low id (g .0) h s (rw e (g .1)) (rw e (g .2))
 
 -- the tables of an id that is not in the key order may be written
 module _ (names cells order : List ℕ) (count id kind payload : ℕ) (text : List ℕ) (few : length text ≤ 64) (new : (i : ℕ) → i < count → getD order i 0 ≡ id → ⊥) where

@@ -1,3 +1,4 @@
 pub mod Turns
 pub mod Complete
 pub mod Total
+pub mod Integers

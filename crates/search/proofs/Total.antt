@@ -91,37 +91,37 @@ module _ {A : Type 0} {compare : A → A → Ordering} (o : Total compare) (item
         go (more b) = above (omega arith)
         go (same b) = above (omega arith)
 
--- ---- a value inserted at its place keeps the order; a table holds ids, `item` tells what they stand for
+-- ---- a value inserted at its place keeps the order; `item` tells what the values of the table stand for
 
-module _ {A : Type 0} {compare : A → A → Ordering} (o : Total compare) (item : ℕ → A) (l : List ℕ) (n low id : ℕ) (h : low ≤ n) (k : n < length l) where
+module _ {A B : Type 0} {compare : A → A → Ordering} (o : Total compare) (item : B → A) (z : B) (l : List B) (n low : ℕ) (v : B) (h : low ≤ n) (k : n < length l) where
   data Stands (i : ℕ) : Type 0 where
-    under : i < low → getD (inserted l low n id) i 0 ≡ getD l i 0 → Stands i
-    new : i ≡ low → getD (inserted l low n id) i 0 ≡ id → Stands i
-    over : (j : ℕ) → i ≡ j + 1 → low ≤ j → j < n → getD (inserted l low n id) i 0 ≡ getD l j 0 → Stands i
+    under : i < low → getD (inserted l low n v) i z ≡ getD l i z → Stands i
+    new : i ≡ low → getD (inserted l low n v) i z ≡ v → Stands i
+    over : (j : ℕ) → i ≡ j + 1 → low ≤ j → j < n → getD (inserted l low n v) i z ≡ getD l j z → Stands i
 
   stands : (i : ℕ) → i < n + 1 → Stands i
   stands i b = go (compared i low)
     where
       go : Compared i low → Stands i
-      go (less c) = under c (inserted-below 0 l low n id i c)
+      go (less c) = under c (inserted-below z l low n v i c)
       go (more c) =
           let e : (i - 1) + 1 ≡ i = omega arith in
           over (i - 1) (sym e) (omega arith) (omega arith)
-          (subst (λ (m : ℕ). getD (inserted l low n id) m 0 ≡ getD l (i - 1) 0) e (inserted-above 0 l low n id h k (i - 1) (omega arith) (omega arith)))
-      go (same c) = new c (rw c (inserted-at 0 l low n id h k))
+          (subst (λ (m : ℕ). getD (inserted l low n v) m z ≡ getD l (i - 1) z) e (inserted-above z l low n v h k (i - 1) (omega arith) (omega arith)))
+      go (same c) = new c (rw c (inserted-at z l low n v h k))
 
-  pub inserted-sorted : Sorted compare (λ i. item (getD l i 0)) n →
-      Below (λ i. compare (item (getD l i 0)) (item id)) n low → Above (λ i. compare (item (getD l i 0)) (item id)) n low →
-      Sorted compare (λ i. item (getD (inserted l low n id) i 0)) (n + 1)
+  pub inserted-sorted : Sorted compare (λ i. item (getD l i z)) n →
+      Below (λ i. compare (item (getD l i z)) (item v)) n low → Above (λ i. compare (item (getD l i z)) (item v)) n low →
+      Sorted compare (λ i. item (getD (inserted l low n v) i z)) (n + 1)
   inserted-sorted s d u p q b c = go (stands p (omega arith)) (stands q c)
     where
-      go : Stands p → Stands q → compare (item (getD (inserted l low n id) p 0)) (item (getD (inserted l low n id) q 0)) ≡ Less
+      go : Stands p → Stands q → compare (item (getD (inserted l low n v) p z)) (item (getD (inserted l low n v) q z)) ≡ Less
       go (under x e) (under y f) = rw (e, f) (s p q b (omega arith))
       go (under x e) (new y f) = rw (e, f) (d p x)
       go (under x e) (over j y m t f) = rw (e, f) (s p j (omega arith) t)
       go (new x e) (under y f) = absurd (omega arith)
       go (new x e) (new y f) = absurd (omega arith)
-      go (new x e) (over j y m t f) = rw (e, f) (after-turn o (item (getD l j 0)) (item id) (u j m t))
+      go (new x e) (over j y m t f) = rw (e, f) (after-turn o (item (getD l j z)) (item v) (u j m t))
       go (over i x g r e) (under y f) = absurd (omega arith)
       go (over i x g r e) (new y f) = absurd (omega arith)
       go (over i x g r e) (over j y m t f) = rw (e, f) (s i j (omega arith) t)

@@ -11,8 +11,9 @@ use mir.Syntax.{w32}
 use mir.Val.{SFits, toZ, ofZ}
 use mir.Facts.{toZ-ofZ}
 use Rattle.integers.specs.Order.{number?}
+use Rattle.integers.specs.Lists.{inserted}
 use Rattle.integers.proofs.Bits.{same-bits, sf32, fits-number, lt-at}
-use Rattle.integers.proofs.OrderLaws.{yes-eq, no-eq, yes-number, too-low, too-high}
+use Rattle.integers.proofs.OrderLaws.{yes-number, too-low, too-high}
 use Rattle.limits.specs.declared.Resource.the-variants.{Work}
 use Rattle.limits.specs.declared.Stop.{Stop}
 use Rattle.limits.specs.declared.Budget.{Budget}
@@ -25,35 +26,35 @@ use Rattle.limits.specs.Meter.{meter, meterOf}
 use Rattle.limits.specs.Budget.{work, links, ran}
 use Rattle.limits.proofs.Monad.{then-stop, then-on}
 use Rattle.search.specs.declared.Ordering.the-variants.{Less, Equal, Greater}
-use Rattle.search.specs.Seek.{seek}
+use Rattle.search.specs.Seek.{seek, compareℤ}
 use Rattle.search.proofs.Complete.{absent-within}
-use Rattle.thresholds.specs.declared.Sought.{Sought}
-use Rattle.thresholds.specs.declared.Sought.the-variants.{Found, Absent}
-use Rattle.thresholds.specs.declared.Sought.the-variants as search
+use Rattle.search.specs.declared.Sought.{Sought}
+use Rattle.search.specs.declared.Sought.the-variants.{Found, Absent}
+use Rattle.search.specs.declared.Sought.the-variants as search
+use Rattle.search.specs.Answers.{Seeks, sought}
+use Rattle.search.proofs.Integers.{ℤ-equal, above-ℤ}
 use Rattle.thresholds.specs.declared.Entered.{Entered}
 use Rattle.thresholds.specs.declared.Entered.the-variants.{Done, Stopped}
-use Rattle.thresholds.specs.Thresholds.{Entry, entry, orderZ, against, inserted, cost, insert, settle, enter, enterNumber, around}
-use Rattle.thresholds.specs.Answers.{Seeks, sought, entered}
+use Rattle.thresholds.specs.Thresholds.{Entry, entry, against, seekNumber, cost, insert, settle, enter, enterNumber, around}
+use Rattle.thresholds.specs.Answers.{entered}
 
 -- ---- two numbers, by the tests of the code
 
 module _ {a b : ℤ} (p : SFits w32 a) (q : SFits w32 b) where
-  pub is-less : ltZ (toZ w32 (ofZ w32 a)) (toZ w32 (ofZ w32 b)) ≡ true → orderZ a (toZ w32 (ofZ w32 b)) ≡ Less
-  unfolding orderZ
+  pub is-less : ltZ (toZ w32 (ofZ w32 a)) (toZ w32 (ofZ w32 b)) ≡ true → compareℤ a (toZ w32 (ofZ w32 b)) ≡ Less
   is-less e = rw (toZ-ofZ q, lt-at p q e)
 
   module _ (e : ltZ (toZ w32 (ofZ w32 a)) (toZ w32 (ofZ w32 b)) ≡ false) where
-    pub is-equal : ofZ w32 a ≡ ofZ w32 b → orderZ a (toZ w32 (ofZ w32 b)) ≡ Equal
-    unfolding orderZ
-    is-equal f = rw (toZ-ofZ q, lt-at p q e, yes-eq a b (same-bits p q f))
+    pub is-equal : ofZ w32 a ≡ ofZ w32 b → compareℤ a (toZ w32 (ofZ w32 b)) ≡ Equal
+    is-equal f = rw (toZ-ofZ q) (ℤ-equal a b (same-bits p q f))
 
-    pub is-greater : (ofZ w32 a ≡ ofZ w32 b → ⊥) → orderZ a (toZ w32 (ofZ w32 b)) ≡ Greater
-    unfolding orderZ
-    is-greater f = rw (toZ-ofZ q, lt-at p q e, no-eq a b (λ z. f (ap (ofZ w32) z)))
+    pub is-greater : (ofZ w32 a ≡ ofZ w32 b → ⊥) → compareℤ a (toZ w32 (ofZ w32 b)) ≡ Greater
+    is-greater f = rw (toZ-ofZ q) (above-ℤ a b (lt-at p q e) (λ z. f (ap (ofZ w32) z)))
 
 -- a search for the number that the code holds as bits
 pub seeks : (t : List ℤ) {v : ℤ} (n w mw : ℕ) (r : Sought) → SFits w32 v → ((e me : ℕ) → sought r mw e me ≡ seek (against t (toZ w32 (ofZ w32 v))) n 0 n (meter w mw e me)) →
-    Seeks (against t v) n w mw r
+    Seeks (seekNumber t n v) w mw r
+unfolding seekNumber
 seeks t n w mw r f h = record { at = λ e me. rw (toZ-ofZ f) at (h e me) }
 
 -- one less and one more, but for the two ends
@@ -98,12 +99,12 @@ module _ (cells : ℕ) (b : Budget) {x : Billed} (h : ran x ≡ work cells b) wh
 
 -- ---- the ways of `enter`
 
-module _ (v : ℤ) (b : Budget) (n : ℕ) (t : List ℤ) {r : Sought} (h : Seeks (against t v) n (b .statistics .work) (b .limits .work) r) where
+module _ (v : ℤ) (b : Budget) (n : ℕ) (t : List ℤ) {r : Sought} (h : Seeks (seekNumber t n v) (b .statistics .work) (b .limits .work) r) where
   -- the budget after the search
   abbrev searched : ℕ → Budget
   searched w = withStatistics (withCount Work w (b .statistics)) b
 
-  ended : sought r (b .limits .work) (b .statistics .entries) (b .limits .entries) ≡ seek (against t v) n 0 n (meterOf b)
+  ended : sought r (b .limits .work) (b .statistics .entries) (b .limits .entries) ≡ seekNumber t n v (meterOf b)
   ended = h .at (b .statistics .entries) (b .limits .entries)
 
   pub enter-found : {i w : ℕ} {b′ : Budget} → r ≡ Found i w → b′ ≡ searched w → entered (Done b′ n) t ≡ enter v (entry b n t)
@@ -116,6 +117,7 @@ module _ (v : ℤ) (b : Budget) (n : ℕ) (t : List ℤ) {r : Sought} (h : Seeks
 
   module _ {low w : ℕ} (e : r ≡ Absent low w) where
     pub place-within : low ≤ n
+    unfolding seekNumber
     place-within = absent-within (against t v) n (meterOf b) (sym (ap (λ (x : Sought). sought x (b .limits .work) (b .statistics .entries) (b .limits .entries)) e) ∙ ended)
 
     module _ {b₁ : Budget} (k : b₁ ≡ searched w) {x : Billed} (p : ran x ≡ cost (n - low + 1) b₁) where

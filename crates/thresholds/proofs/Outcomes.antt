@@ -6,6 +6,7 @@ use mathlib.Core.Bool.{Bool, true, false, cond}
 use lib.Dec.{ltb}
 use lib.IntN.{ℤ}
 use Rattle.integers.specs.Order.{number?}
+use Rattle.integers.specs.Lists.{inserted}
 use Rattle.limits.specs.declared.Resource.the-variants.{Work, Links}
 use Rattle.limits.specs.declared.Stop.{Stop}
 use Rattle.limits.specs.declared.Budget.{Budget}
@@ -23,7 +24,7 @@ use Rattle.search.specs.declared.Ordering.{Ordering}
 use Rattle.search.specs.declared.Ordering.the-variants.{Less, Equal, Greater}
 use Rattle.search.specs.Seek.{Place, found, absent, by, middle, seek}
 use Rattle.search.proofs.Complete.{Rising, Ends, Within, search-ends, seek-within}
-use Rattle.thresholds.specs.Thresholds.{Entry, entry, against, inserted, cost, insert, settle, enter, enterNumber}
+use Rattle.thresholds.specs.Thresholds.{Entry, entry, against, seekNumber, cost, insert, settle, enter, enterNumber}
 
 -- all that the two budgets share: the limits, and every count but work and links
 pub record Charging (b c : Budget) : Type 0 where
@@ -129,7 +130,7 @@ module _ (v : ℤ) (s : Entry) where
   searched (stopped e m) h k l = refused (metering m (omega (arith, l)))
 
   pub enter-leaves : Leaves v s (enter v s)
-  unfolding enter _>>=_ through
+  unfolding enter seekNumber _>>=_ through
   enter-leaves =
       searched (seek probe (s .count) 0 (s .count) (meterOf (s .budget)))
       (seek-within probe (s .count) 0 (s .count) (omega arith) .at (meterOf (s .budget)))

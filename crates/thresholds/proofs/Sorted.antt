@@ -8,15 +8,17 @@ use mathlib.Core.Bool.{Bool, true, false, cond}
 use mathlib.Core.List.{List}
 use lib.IntN.{ℤ, pos, _+ℤ_, _-ℤ_}
 use lib.ListN.{length, getD}
-use lib.Signed.{ltZ}
-use Rattle.integers.specs.Order.{up, Lt, eqZ, Number, number?}
-use Rattle.integers.proofs.OrderLaws.{number-yes, lt-yes, lt-no, yes-lt, no-lt, eq-yes, no-eq, yes-eq, le-antisym, yes-number}
+use Rattle.integers.specs.Order.{Lt, Number, number?}
+use Rattle.integers.specs.Lists.{inserted}
+use Rattle.integers.proofs.OrderLaws.{number-yes, yes-number}
+use Rattle.integers.proofs.Insertion.{inserted-length, inserted-below, inserted-at, inserted-above, inserted-beyond}
 use Rattle.limits.specs.declared.Stop.{Stop}
 use Rattle.limits.specs.Metered.{Run, going, stopped, Metered, pure, after, _>>=_, _>>_}
-use Rattle.search.specs.declared.Ordering.the-variants.{Less, Equal, Greater}
+use Rattle.search.specs.Seek.{compareℤ}
 use Rattle.search.proofs.Complete.{Rising}
-use Rattle.thresholds.specs.Thresholds.{Entry, orderZ, against, inserted, enter, enterNumber, around}
-use Rattle.thresholds.proofs.Inserted.{in-low, in-at, in-high, in-behind, in-length, stays-sorted}
+use Rattle.search.proofs.Total.{Sorted, rising, inserted-sorted}
+use Rattle.search.proofs.Integers.{ℤ-less, less-ℤ, total-ℤ}
+use Rattle.thresholds.specs.Thresholds.{Entry, against, enter, enterNumber, around}
 use Rattle.thresholds.proofs.Outcomes.{Charging, charging-none, charging-more, Leaves, standing, new, refused, enter-leaves}
 
 -- the first `count` numbers of the table are strictly increasing
@@ -43,54 +45,12 @@ abbrev pub Ending : (Entry → Type 0) → (Entry → Type 0) → Run Stop Entry
 Ending P Q (going a s) = P s
 Ending P Q (stopped e s) = Q s
 
--- ---- the order of two numbers
-
-module _ (a b : ℤ) where
-  order-by : (P : Type 0) → (Lt a b → orderZ a b ≡ Less → P) → (a ≡ b → orderZ a b ≡ Equal → P) → (Lt b a → orderZ a b ≡ Greater → P) → P
-  unfolding orderZ
-  order-by P f g h = go (ltZ a b) (eqZ a b) refl refl
-    where
-      go : (t u : Bool) → ltZ a b ≡ t → eqZ a b ≡ u → P
-      go true u e k = f (lt-yes a b e) (rw e)
-      go false true e k = g (eq-yes a b k) (rw (e, k))
-      go false false e k = h (strict (ltZ b a) refl) (rw (e, k))
-        where
-          strict : (t : Bool) → ltZ b a ≡ t → Lt b a
-          strict true z = lt-yes b a z
-          strict false z = let w : eqZ a b ≡ true = yes-eq a b (le-antisym a b (lt-no b a z) (lt-no a b e)) in let y : _≡_ {A = ℕ} 0 1 = cc in absurd (omega arith)
-
-  order-less : orderZ a b ≡ Less → Lt a b
-  order-less e = order-by (Lt a b) (λ h _. h) (λ _ k. let y : _≡_ {A = ℕ} 0 1 = cc in absurd (omega arith)) (λ _ k. let y : _≡_ {A = ℕ} 0 1 = cc in absurd (omega arith))
-
-  order-equal : orderZ a b ≡ Equal → a ≡ b
-  order-equal e = order-by (a ≡ b) (λ _ k. let y : _≡_ {A = ℕ} 0 1 = cc in absurd (omega arith)) (λ h _. h) (λ _ k. let y : _≡_ {A = ℕ} 0 1 = cc in absurd (omega arith))
-
-  order-greater : orderZ a b ≡ Greater → Lt b a
-  order-greater e = order-by (Lt b a) (λ _ k. let y : _≡_ {A = ℕ} 0 1 = cc in absurd (omega arith)) (λ _ k. let y : _≡_ {A = ℕ} 0 1 = cc in absurd (omega arith)) (λ h _. h)
-
-  less-order : Lt a b → orderZ a b ≡ Less
-  unfolding orderZ
-  less-order h = rw (yes-lt a b h)
-
-  greater-order : Lt b a → orderZ a b ≡ Greater
-  unfolding orderZ
-  greater-order h = rw (no-lt a b (omega arith), no-eq a b (λ e. apart e h))
-    where
-      apart : a ≡ b → Lt b a → ⊥
-      apart e h = let k : Lt b b = subst (λ (z : ℤ). Lt b z) e h in omega arith
-
 -- the search goes by the order of the table
-rising : (t : List ℤ) (n : ℕ) (v : ℤ) → Rises n t → Rising (against t v) n
-rising t n v s = record {
-  down = λ p q l m e.
-      let h = order-less (getD t q (pos 0)) v e in
-      let k = s p q l m in
-      less-order (getD t p (pos 0)) v (omega arith);
-  up = λ p q l m e.
-      let h = order-greater (getD t p (pos 0)) v e in
-      let k = s p q l m in
-      greater-order (getD t q (pos 0)) v (omega arith);
-}
+in-order : (n : ℕ) (t : List ℤ) → Rises n t → Sorted compareℤ (λ i. getD t i (pos 0)) n
+in-order n t s p q h k = ℤ-less (getD t p (pos 0)) (getD t q (pos 0)) (s p q h k)
+
+goes-up : (t : List ℤ) (n : ℕ) (v : ℤ) → Rises n t → Rising (against t v) n
+goes-up t n v s = rising total-ℤ (λ i. getD t i (pos 0)) v n (in-order n t s)
 
 -- ---- what is kept, step after step
 
@@ -157,36 +117,38 @@ module _ (New : ℤ → Type 0) (v : ℤ) (named : New v) (s : Entry) (r : Rises
   module _ (low : ℕ) (k : low ≤ s .count) where
     stay-old : (z : ℤ) → Has s z → (i : ℕ) × (i < s .count + 1) × (getD (inserted (s .table) low (s .count) v) i (pos 0) ≡ z)
     stay-old z h = elim (decLt (h .0) low) [
-      | yes b ↦ (h .0, omega (arith, h .1), in-low (pos 0) (s .table) low (s .count) v k g (h .0) b ∙ h .2)
-      | no b ↦ (h .0 + 1, omega (arith, h .1), in-high (pos 0) (s .table) low (s .count) v k g (h .0 + 1) (omega arith) (omega (arith, h .1)) ∙ ap (λ (i : ℕ). getD (s .table) i (pos 0)) (omega arith) ∙ h .2)
+      | yes b ↦ (h .0, omega (arith, h .1), inserted-below (pos 0) (s .table) low (s .count) v (h .0) b ∙ h .2)
+      | no b ↦ (h .0 + 1, omega (arith, h .1), inserted-above (pos 0) (s .table) low (s .count) v k g (h .0) (omega arith) (omega (arith, h .1)) ∙ h .2)
     ]
 
     come-new : (z : ℤ) → (i : ℕ) × (i < s .count + 1) × (getD (inserted (s .table) low (s .count) v) i (pos 0) ≡ z) → Has s z ⊎ New z
     come-new z h = go (decLt (h .0) low) (decLt low (h .0))
       where
         go : Dec (h .0 < low) → Dec (low < h .0) → Has s z ⊎ New z
-        go (yes b) c = inl (h .0, omega arith, sym (in-low (pos 0) (s .table) low (s .count) v k g (h .0) b) ∙ h .2)
-        go (no b) (yes c) = inl (h .0 - 1, omega (arith, h .1), sym (in-high (pos 0) (s .table) low (s .count) v k g (h .0) c (omega (arith, h .1))) ∙ h .2)
+        go (yes b) c = inl (h .0, omega arith, sym (inserted-below (pos 0) (s .table) low (s .count) v (h .0) b) ∙ h .2)
+        go (no b) (yes c) = inl (h .0 - 1, omega (arith, h .1), sym (inserted-above (pos 0) (s .table) low (s .count) v k g (h .0 - 1) (omega arith) (omega (arith, h .1))) ∙ ap (λ (i : ℕ). getD (inserted (s .table) low (s .count) v) i (pos 0)) (omega arith) ∙ h .2)
         go (no b) (no c) =
             let e : h .0 ≡ low = omega arith in
-            inr (subst New (sym (in-at (pos 0) (s .table) low (s .count) v k g) ∙ ap (λ (i : ℕ). getD (inserted (s .table) low (s .count) v) i (pos 0)) (sym e) ∙ h .2) named)
+            inr (subst New (sym (inserted-at (pos 0) (s .table) low (s .count) v k g) ∙ ap (λ (i : ℕ). getD (inserted (s .table) low (s .count) v) i (pos 0)) (sym e) ∙ h .2) named)
 
   left : {x : Run Stop Entry (Unit {0})} → Leaves v s x → Ending (λ s′. Kept New 1 s s′ × Has s′ v) (Kept New 1 s) x
   left (standing {i} {b} c k l) =
-      (kept-none s r refl refl c 1, (i, k, order-equal (getD (s .table) i (pos 0)) v (l (rising (s .table) (s .count) v r) .1)))
+      (kept-none s r refl refl c 1, (i, k, total-ℤ .equal (getD (s .table) i (pos 0)) v (l (goes-up (s .table) (s .count) v r) .1)))
   left (new {low} {b} c k l) =
-      let m = l (rising (s .table) (s .count) v r) in (
+      let m = l (goes-up (s .table) (s .count) v r) in (
         record {
-          rises = stays-sorted (pos 0) (s .table) low (s .count) v k g Lt r (λ j h. order-less (getD (s .table) j (pos 0)) v (m .1 j h)) (λ j h h′. order-greater (getD (s .table) j (pos 0)) v (m .2 j h h′));
+          rises = λ p q i j.
+              less-ℤ (getD (inserted (s .table) low (s .count) v) p (pos 0)) (getD (inserted (s .table) low (s .count) v) q (pos 0))
+              (inserted-sorted total-ℤ (λ z. z) (pos 0) (s .table) (s .count) low v k g (in-order (s .count) (s .table) r) (m .1) (m .2) p q i j);
           old = λ z h. stay-old low k z h;
           fresh = λ z h. come-new low k z h;
           fewest = omega arith;
           most = omega arith;
-          behind = λ j h. in-behind (pos 0) (s .table) low (s .count) v k g j (omega arith);
-          size = in-length (pos 0) (s .table) low (s .count) v k g;
+          behind = λ j h. inserted-beyond (pos 0) (s .table) low (s .count) v k g j (omega arith);
+          size = inserted-length (pos 0) (s .table) low (s .count) v;
           charging = c;
         },
-        (low, omega arith, in-at (pos 0) (s .table) low (s .count) v k g),
+        (low, omega arith, inserted-at (pos 0) (s .table) low (s .count) v k g),
       )
   left (refused c) = kept-none s r refl refl c 1
 

@@ -2,19 +2,18 @@
 -- in the first cells of a lent table.
 use Prim.Native.Nat.{ℕ, _+_, _-_}
 use mathlib.Core.Bool.{cond}
-use mathlib.Core.List.{List, _∷_, _++_}
+use mathlib.Core.List.{List}
 use lib.IntN.{ℤ, pos, _+ℤ_, _-ℤ_}
-use lib.ListN.{getD, take, drop}
-use lib.Signed.{ltZ}
-use Rattle.integers.specs.Order.{eqZ, number?}
+use lib.ListN.{getD}
+use Rattle.integers.specs.Order.{number?}
+use Rattle.integers.specs.Lists.{inserted}
 use Rattle.limits.specs.declared.Budget.{Budget}
 use Rattle.limits.specs.declared.Stop.{Stop}
 use Rattle.limits.specs.Budget.{work, links}
-use Rattle.limits.specs.Meter.{metered}
+use Rattle.limits.specs.Meter.{Meter, metered}
 use Rattle.limits.specs.Metered.{going, Metered, pure, _>>=_, _>>_, zoom}
 use Rattle.search.specs.declared.Ordering.{Ordering}
-use Rattle.search.specs.declared.Ordering.the-variants.{Less, Equal, Greater}
-use Rattle.search.specs.Seek.{Place, found, absent, seek}
+use Rattle.search.specs.Seek.{Place, found, absent, seek, compareℤ}
 
 -- what entering a threshold changes: the budget, how many stand, the lent cells
 pub record Entry : Type 0 where
@@ -25,17 +24,13 @@ pub record Entry : Type 0 where
 abbrev pub entry : Budget → ℕ → List ℤ → Entry
 entry b n t = record { budget = b; count = n; table = t }
 
--- i32's `cmp`
-unfoldable pub orderZ : ℤ → ℤ → Ordering
-orderZ a b = cond (ltZ a b) Less (cond (eqZ a b) Equal Greater)
-
 -- how the cell at a place stands to the number v
 abbrev pub against : List ℤ → ℤ → ℕ → Ordering
-against t v i = orderZ (getD t i (pos 0)) v
+against t v i = compareℤ (getD t i (pos 0)) v
 
--- the cells from `at` up to `count` go one place up and v stands at `at`; all other cells are as they were
-unfoldable pub inserted : {A : Type 0} → List A → ℕ → ℕ → A → List A
-inserted t at count v = take at t ++ (v ∷ take (count - at) (drop at t)) ++ drop (count + 1) t
+-- among the first `count` cells
+unfoldable pub seekNumber : List ℤ → ℕ → ℤ → Metered Stop Meter Place
+seekNumber t count v = seek (against t v) count 0 count
 
 -- what is charged alone
 abbrev pub paying : {A : Type 0} → Metered Stop Budget A → Metered Stop Entry A
@@ -54,7 +49,7 @@ settle v count (found i) = pure tt
 settle v count (absent low) = paying (cost (count - low + 1)) >> insert low v
 
 unfoldable pub enter : ℤ → Metered Stop Entry (Unit {0})
-enter v s = (paying (metered (seek (against (s .table) v) (s .count) 0 (s .count))) >>= settle v (s .count)) s
+enter v s = (paying (metered (seekNumber (s .table) (s .count) v)) >>= settle v (s .count)) s
 
 -- `checked_sub`, `checked_add`: a number that needs more than 32 bits is passed over
 unfoldable pub enterNumber : ℤ → Metered Stop Entry (Unit {0})

@@ -4,6 +4,7 @@ use limits::Budget;
 use limits::Charged;
 use limits::Resource;
 use limits::Stop;
+use search::Sought;
 ghost use mathlib.Core.Path.{_≡_};
 ghost use Prim.Native.Nat.{_+_, _≤_, _<_};
 ghost use lib.ListN.{length};
@@ -11,15 +12,10 @@ ghost use lib.IntN.{pos, _+ℤ_, _-ℤ_};
 ghost use Rattle.limits.specs.declared.Resource.the-variants.{Work};
 ghost use Rattle.limits.specs.Records.{withCount, withStatistics};
 ghost use Rattle.limits.specs.Budget.{ran};
-ghost use Rattle.thresholds.specs.Thresholds.{entry, against, inserted, cost, enter, enterNumber, around};
-ghost use Rattle.thresholds.specs.Answers.{Seeks, entered};
-
-// Where a number stands or would stand, with the work after the search.
-pub enum Sought {
-    Found(usize, u64),
-    Absent(usize, u64),
-    Stopped(Stop, u64),
-}
+ghost use Rattle.integers.specs.Lists.{inserted};
+ghost use Rattle.search.specs.Answers.{Seeks};
+ghost use Rattle.thresholds.specs.Thresholds.{entry, seekNumber, cost, enter, enterNumber, around};
+ghost use Rattle.thresholds.specs.Answers.{entered};
 
 // What is left: the budget, and how many thresholds stand.
 pub enum Entered {
@@ -30,7 +26,7 @@ pub enum Entered {
 // Binary search among the first `count` cells.
 pub fn seek_number(table: &[i32], count: usize, value: i32, work: u64, max_work: u64) -> Sought
     requires { ⌜ count ≤ length (now table) ⌝ }
-    ensures { λ r. ⌜ Seeks (against (now (table .entry)) value) count work «max_work» r ⌝ }
+    ensures { λ r. ⌜ Seeks (seekNumber (now (table .entry)) count value) work «max_work» r ⌝ }
 {
     let mut low: usize = 0;
     let mut high = count;
@@ -65,12 +61,13 @@ pub fn insert_number(table: &mut [i32], at: usize, count: usize, value: i32)
 {
     let mut i = at;
     let mut carry = value;
-    while i <= count {
+    while i < count {
         let x = table[i];
         table[i] = carry;
         carry = x;
         i += 1;
     }
+    table[i] = carry;
 }
 
 // The same budget with this much work.

@@ -1,30 +1,27 @@
 -- `thresholds::insert_number` meets its contract.
-use Prim.Native.Nat.{_+_, _-_, _≤_}
+use Prim.Native.Nat.{_-_, _≤_}
 use native.Mathlib.Omega.{arith}
 use mathlib.Core.Path.{_≡_, refl, _∙_}
-use lib.ListN.{getD}
-use lib.ListN.{length, length-set}
 use lib.IntN.{pos}
-use borrow.Author.Needs.{sfits-of}
-use borrow.Author.Needs.{needs}
-use mir.Val.{SFits}
-use mir.Facts.{toZ-ofZ}
-use mir.Val.{toZ}
+use lib.ListN.{length, length-set, getD}
+use borrow.Author.Needs.{needs, sfits-of}
 use mir.Syntax.{w32}
-use Rattle.thresholds.specs.Thresholds.{inserted}
-use Rattle.thresholds.proofs.Shifting.{Shifting, shift-start, shift-more, shift-end}
+use mir.Val.{SFits, toZ}
+use mir.Facts.{toZ-ofZ}
+use Rattle.integers.specs.Lists.{inserted}
+use Rattle.integers.proofs.Insertion.{Inserting, inserting, inserting-more, inserting-last}
 use Rattle.thresholds.proofs.insert_number.Statement.{statement}
 use Rattle.thresholds.proofs.insert_number.Tie as tie
 
 abbrev Inv-loop : tie.InvT-loop
 Inv-loop table₀ at count value i₀ carry₀ table i carry =
-    (length table ≡ length table₀) × (i ≤ count + 1) × Shifting (pos 0) (inserted table₀ at count (toZ w32 value)) table i count (toZ w32 carry)
+    (length table ≡ length table₀) × (i ≤ count) × Inserting (inserted table₀ at count (toZ w32 value)) table i count (toZ w32 carry)
 
 abbrev μ-loop : tie.MeasureT-loop
-μ-loop table₀ at count value i₀ carry₀ table i carry = count + 1 - i
+μ-loop table₀ at count value i₀ carry₀ table i carry = count - i
 
 loop-holds : tie.Need-loop-holds Inv-loop μ-loop
-loop-holds c = (refl, omega arith, shift-start _ _ _ _ (omega arith) (omega arith))
+loop-holds c = (refl, omega arith, inserting _ _ _ _)
 
 mul-x : tie.Need-mul-x Inv-loop μ-loop
 mul-x c = search needs
@@ -47,13 +44,19 @@ loop-less c = search needs
 loop-again : tie.Need-loop-again Inv-loop μ-loop
 loop-again c =
     let h : SFits w32 (getD (c .before .before .loop .table) (c .before .before .loop .i) (pos 0)) = sfits-of (c .x .given) in
-    (simp length-set (omega arith), omega arith, rw (toZ-ofZ h) (shift-more (c .before .before .loop .inv .2) (omega arith)))
+    (simp length-set (omega arith), omega arith, inserting-more (c .before .before .loop .inv .2) (pos 0) (omega arith) (toZ-ofZ h) refl)
+
+mul-carry-2 : tie.Need-mul-carry-2 Inv-loop μ-loop
+mul-carry-2 c = search needs
+
+slice-set-from-carry-2 : tie.Need-slice-set-from-carry-2 Inv-loop μ-loop
+slice-set-from-carry-2 c = search needs
 
 same-length : tie.Need-same-length Inv-loop μ-loop
-same-length c = c .before .loop .inv .0
+same-length c = search needs
 
 returns : tie.Need-returns Inv-loop μ-loop
-returns c = shift-end (c .before .loop .inv .2) (omega arith) ∙ rw (toZ-ofZ (c .before .before .fits .value))
+returns c = inserting-last (c .before .loop .inv .2) (omega arith) refl ∙ rw (toZ-ofZ (c .before .before .fits .value))
 
 pub insert-number-spec : {M : Type 1} → statement M
 insert-number-spec =
@@ -69,5 +72,7 @@ insert-number-spec =
     add-i
     loop-less
     loop-again
+    mul-carry-2
+    slice-set-from-carry-2
     same-length
     returns)

@@ -2,15 +2,15 @@
 use Prim.Native.Nat.{ℕ, _-_, _≤_}
 use native.Mathlib.Omega.{arith}
 use mathlib.Core.Path.{refl}
-use lib.ListN.{length}
-use borrow.Author.Needs.{sfits-of}
-use borrow.Author.Needs.{needs}
-use mir.Val.{toZ}
+use lib.IntN.{pos}
+use lib.ListN.{length, getD}
+use borrow.Author.Needs.{needs, sfits-of}
 use mir.Syntax.{w32}
+use mir.Val.{SFits, toZ}
 use denote.Ref.{now}
 use Rattle.limits.proofs.CodeLaws.{work-paid, work-stopped}
 use Rattle.search.proofs.Turns.{At, at-end, at-stop, at-found, at-right, at-left}
-use Rattle.search.specs.Seek.{seek}
+use Rattle.search.specs.Seek.{seek, middle}
 use Rattle.limits.specs.Meter.{meter}
 use Rattle.thresholds.specs.Thresholds.{against}
 use Rattle.thresholds.proofs.CodeLaws.{is-less, is-equal, is-greater, seeks}
@@ -59,16 +59,28 @@ loop-less : tie.Need-loop-less Inv-loop μ-loop
 loop-less c = search needs
 
 loop-again : tie.Need-loop-again Inv-loop μ-loop
-loop-again c = (omega arith, omega arith, λ e me. at-right (c .before .before .before .before .before .before .before .loop .inv .2 e me) (c .before .before .before .before .before .before .loop-test .taken) (work-paid _ _ e me 1 (c .before .before .before .before .before .charge .ensures) (c .before .before .before .now .given .1)) (is-less (sfits-of (c .before .x .given)) (c .before .before .before .before .before .before .before .before .fits .value) (c .if1 .taken)))
+loop-again c =
+    let a = c .before .before .before .before .before .before .before .before in
+    let l = c .before .before .before .before .before .before .before .loop in
+    let h : SFits w32 (getD (now (a .args .table)) (middle (l .low) (l .high)) (pos 0)) = sfits-of (c .before .x .given) in
+    (omega arith, omega arith, λ e me. at-right (l .inv .2 e me) (c .before .before .before .before .before .before .loop-test .taken) (work-paid _ _ e me 1 (c .before .before .before .before .before .charge .ensures) (c .before .before .before .now .given .1)) (is-less h (a .fits .value) (c .if1 .taken)))
 
 returns-2 : tie.Need-returns-2 Inv-loop μ-loop
-returns-2 c = seeks (now (c .before .before .before .before .before .before .before .before .before .args .table)) _ _ _ _ (c .before .before .before .before .before .before .before .before .before .fits .value) (λ e me. at-found (c .before .before .before .before .before .before .before .before .loop .inv .2 e me) (c .before .before .before .before .before .before .before .loop-test .taken) (work-paid _ _ e me 1 (c .before .before .before .before .before .before .charge .ensures) (c .before .before .before .before .now .given .1)) (is-equal (sfits-of (c .before .before .x .given)) (c .before .before .before .before .before .before .before .before .before .fits .value) (c .before .if1 .left) (c .if2 .taken)))
+returns-2 c =
+    let a = c .before .before .before .before .before .before .before .before .before in
+    let l = c .before .before .before .before .before .before .before .before .loop in
+    let h : SFits w32 (getD (now (a .args .table)) (middle (l .low) (l .high)) (pos 0)) = sfits-of (c .before .before .x .given) in
+    seeks (now (a .args .table)) _ _ _ _ (a .fits .value) (λ e me. at-found (l .inv .2 e me) (c .before .before .before .before .before .before .before .loop-test .taken) (work-paid _ _ e me 1 (c .before .before .before .before .before .before .charge .ensures) (c .before .before .before .before .now .given .1)) (is-equal h (a .fits .value) (c .before .if1 .left) (c .if2 .taken)))
 
 loop-less-2 : tie.Need-loop-less-2 Inv-loop μ-loop
 loop-less-2 c = search needs
 
 loop-again-2 : tie.Need-loop-again-2 Inv-loop μ-loop
-loop-again-2 c = (omega arith, omega arith, λ e me. at-left (c .before .before .before .before .before .before .before .before .loop .inv .2 e me) (c .before .before .before .before .before .before .before .loop-test .taken) (work-paid _ _ e me 1 (c .before .before .before .before .before .before .charge .ensures) (c .before .before .before .before .now .given .1)) (is-greater (sfits-of (c .before .before .x .given)) (c .before .before .before .before .before .before .before .before .before .fits .value) (c .before .if1 .left) (c .if2 .left)))
+loop-again-2 c =
+    let a = c .before .before .before .before .before .before .before .before .before in
+    let l = c .before .before .before .before .before .before .before .before .loop in
+    let h : SFits w32 (getD (now (a .args .table)) (middle (l .low) (l .high)) (pos 0)) = sfits-of (c .before .before .x .given) in
+    (omega arith, omega arith, λ e me. at-left (l .inv .2 e me) (c .before .before .before .before .before .before .before .loop-test .taken) (work-paid _ _ e me 1 (c .before .before .before .before .before .before .charge .ensures) (c .before .before .before .before .now .given .1)) (is-greater h (a .fits .value) (c .before .if1 .left) (c .if2 .left)))
 
 returns-3 : tie.Need-returns-3 Inv-loop μ-loop
 returns-3 c = seeks (now (c .before .before .args .table)) _ _ _ _ (c .before .before .fits .value) (λ e me. at-end (c .before .loop .inv .2 e me) (c .loop-test .left))
