@@ -1,17 +1,17 @@
 -- Signed numbers as the machine holds them: from a test on bits to the numbers, what fits which width, and casts.
-use Prim.Native.Nat.{ℕ, suc, _+_, _*_, _≤_, _<_, _^_}
+use Prim.Native.Nat.{ℕ, suc, _*_, _≤_, _<_, _^_}
 use native.Mathlib.Omega.{arith}
 use native.Mathlib.Nat.{mul-le-mul}
 use mathlib.Core.Path.{_≡_, refl, sym, ap, _∙_}
 use borrow.Author.Tests.{eqb-true, eqb-false}
 use lib.Dec.{eqb}
-use mathlib.Core.Bool.{Bool, true, false, cond}
+use mathlib.Core.Bool.{Bool, true, false}
 use lib.IntN.{ℤ, pos, negsuc, negℤ, _+ℤ_, _-ℤ_, _*ℤ_}
 use lib.Signed.{ltZ, leZ, mag}
 use mir.Syntax.{Width, w32, w64}
 use mir.Val.{SFits, toZ, ofZ}
 use mir.Facts.{toZ-ofZ, sfits-widen}
-use Rattle.integers.specs.Order.{up, dn, Le, Lt, eqZ, minZ, maxZ, least32, greatest32, Number}
+use Rattle.integers.specs.Order.{up, dn, eqZ, minZ, maxZ, Number}
 use Rattle.integers.proofs.OrderLaws.{yes-eq, no-eq}
 use Rattle.integers.proofs.Sums.{one-zero, add-split, sub-split-ℤ, neg-up, neg-dn}
 

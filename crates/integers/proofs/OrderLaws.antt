@@ -1,14 +1,14 @@
 -- The order of ℤ: its tests, that it is the library's, and the laws of least and greatest.
-use Prim.Native.Nat.{ℕ, suc, _+_, _≤_, _<_}
+use Prim.Native.Nat.{ℕ}
 use native.Mathlib.Omega.{arith}
 use mathlib.Core.Path.{_≡_, refl, sym, ap, subst}
 use mathlib.Core.Logic.{_↔_}
-use mathlib.Core.Bool.{Bool, true, false, cond, _&&_}
+use mathlib.Core.Bool.{Bool, true, false, cond}
 use borrow.Author.Tests.{ltb-true, ltb-false, leb-true, leb-false, eqb-true, lt-ltb, le-ltb, le-leb, lt-leb, eq-eqb, ne-eqb}
 use lib.Dec.{T}
 use lib.IntN.{ℤ, pos, negsuc}
 use lib.Signed.{ltZ, leZ, _≤ℤ_, _<ℤ_}
-use Rattle.integers.specs.Order.{up, dn, Le, Lt, eqZ, minZ, maxZ, least32, greatest32, Number, number?}
+use Rattle.integers.specs.Order.{Le, Lt, eqZ, minZ, maxZ, least32, greatest32, Number, number?}
 use Rattle.integers.proofs.Tests.{by-cond, and-left, and-right}
 
 -- ---- from a test to the order, and back

@@ -1,9 +1,9 @@
 -- The product's four corners: a product of numbers between ends lies between the least and the greatest product of an end with an end.
 use Prim.Native.Nat.{ℕ, zero, suc}
 use native.Mathlib.Omega.{arith}
-use mathlib.Core.Path.{_≡_, sym, ap, ap₂, _∙_}
-use lib.IntN.{ℤ, pos, negsuc, negℤ, _+ℤ_, _*ℤ_, sucℤ-*ℤ, *ℤ-comm, *ℤ-zero, *ℤ-negsuc}
-use Rattle.integers.specs.Order.{up, dn, Le, Between, minZ, maxZ}
+use mathlib.Core.Path.{_≡_, ap, _∙_}
+use lib.IntN.{ℤ, pos, negsuc, _+ℤ_, _*ℤ_, sucℤ-*ℤ, *ℤ-comm, *ℤ-zero, *ℤ-negsuc}
+use Rattle.integers.specs.Order.{Le, Between, minZ, maxZ}
 use Rattle.integers.proofs.OrderLaws.{min-left, min-right, min-least, max-left, max-right, max-greatest}
 use Rattle.integers.proofs.Sums.{add-grows, neg-falls}
 

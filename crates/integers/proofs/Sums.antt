@@ -1,12 +1,12 @@
 -- Sums, differences and negation in ℤ, as `omega` reads them: what `up` and `dn` of each are, and that they grow and fall with their parts.
-use Prim.Native.Nat.{ℕ, zero, suc, _+_, _≤_, _<_}
+use Prim.Native.Nat.{ℕ, zero, suc, _+_, _≤_}
 use native.Mathlib.Omega.{arith}
 use mathlib.Core.Path.{_≡_, refl}
 use mathlib.Core.Bool.{Bool, true, false}
 use borrow.Author.Tests.{ltb-true, ltb-false}
 use lib.Dec.{ltb}
 use lib.IntN.{ℤ, pos, negsuc, negℤ, subℕ, _+ℤ_, _-ℤ_}
-use Rattle.integers.specs.Order.{up, dn, Le, Lt}
+use Rattle.integers.specs.Order.{up, dn, Le}
 
 -- one of the two is 0
 pub one-zero : (z : ℤ) (k : ℕ) → up z ≤ k + dn z → dn z ≤ k + up z → (up z ≤ k) × (dn z ≤ k)

@@ -1,5 +1,5 @@
 -- The intervals of the port, and what each operation answers. 01: "The interval covers the numbers", "Join takes the hull", "Meet intersects".
-use mathlib.Core.Bool.{Bool, true, false, cond, _&&_}
+use mathlib.Core.Bool.{Bool, true, false, _&&_}
 use lib.IntN.{ℤ}
 use lib.Signed.{leZ}
 use Rattle.integers.specs.Order.{least32, greatest32, eqZ}
@@ -7,7 +7,7 @@ use Rattle.interval.specs.declared.Interval.{Interval}
 use Rattle.interval.specs.declared.Interval.the-variants.{Bottom, Bounded, Unbounded}
 use Rattle.interval.specs.declared.Endpoints.{Endpoints}
 use Rattle.interval.specs.declared.Endpoints.the-variants.{Nothing, Between}
-use Rattle.interval.specs.Cousot.{End, −∞, at, +∞, Cousot, empty, between, from-to, join, meet}
+use Rattle.interval.specs.Cousot.{−∞, at, +∞, Cousot, empty, between, from-to, join, meet}
 
 -- the interval of Cousot and Cousot that each case is
 abbrev pub cousot : Interval → Cousot

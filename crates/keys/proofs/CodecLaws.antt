@@ -1,5 +1,5 @@
 -- A key that was written reads back, and the keys of other ids are as they were.
-use Prim.Native.Nat.{ℕ, min, _+_, _-_, _*_, _≤_, _<_}
+use Prim.Native.Nat.{ℕ, min, _+_, _*_, _≤_, _<_}
 use native.Mathlib.Omega.{arith}
 use native.Mathlib.Nat.{add-zero, zero-add}
 use mathlib.Core.Path.{_≡_, refl, sym, ap, subst, _∙_}

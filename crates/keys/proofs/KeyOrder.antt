@@ -3,9 +3,7 @@ use Prim.Native.Nat.{ℕ, _+_, _≤_, _<_}
 use native.Mathlib.Omega.{arith}
 use mathlib.Core.Path.{_≡_, refl, sym, ap, ap₂, _∙_}
 use mathlib.Core.Logic.{_↔_}
-use mathlib.Core.Bool.{Bool, true, false}
 use mathlib.Core.List.{List, [], _∷_}
-use lib.IntN.{ℤ}
 use lib.ListN.{length, getD}
 use Rattle.integers.specs.Lists.{inserted}
 use Rattle.integers.proofs.ListLaws.{Compared, less, more, same, compared}

@@ -1,17 +1,16 @@
 -- What the code's answers are, over plain variables: one law for each way out of a function.
-use Prim.Native.Nat.{ℕ, zero, suc, _+_, _-_, _*_, _<_, _≤_, min}
+use Prim.Native.Nat.{ℕ, zero, suc, _+_, _-_, _*_, _<_, _≤_}
 use native.Mathlib.Omega.{arith}
 use mathlib.Core.Path.{_≡_, refl, sym, ap, _∙_}
-use mathlib.Core.Bool.{Bool, true, false, cond, _&&_}
+use mathlib.Core.Bool.{Bool, true, false, _&&_}
 use mathlib.Core.List.{List, [], _∷_}
 use mathlib.Core.Option.{Option, some, none}
 use borrow.Author.Tests.{eq-eqb, ne-eqb, le-leb, lt-leb}
-use lib.Dec.{leb, eqb}
-use lib.ListN.{length, take, getD, length-take}
+use lib.ListN.{length, take, getD}
 use lib.IntN.{ℤ}
 use Rattle.limits.specs.declared.Stop.{Stop}
-use Rattle.limits.specs.Metered.{Run, going, stopped, Metered, pure, _>>=_, _>>_}
-use Rattle.limits.specs.Meter.{Meter, meter, work, retain, holding}
+use Rattle.limits.specs.Metered.{Run, going, stopped, Metered}
+use Rattle.limits.specs.Meter.{Meter, meter, work, retain}
 use Rattle.limits.proofs.Monad.{bind-stop, bind-on, then-stop, then-on, pure-is, yes-on, no-on}
 use Rattle.limits.proofs.CodeLaws.{hold-on, hold-stop}
 use Rattle.interval.specs.declared.Interval.{Interval}
@@ -30,7 +29,7 @@ use Rattle.lists.specs.declared.Trial.the-variants.{Left}
 use Rattle.lists.specs.declared.Trial.the-variants as trial
 use Rattle.limits.specs.declared.Charged.{Charged}
 use Rattle.limits.specs.declared.Charged.the-variants.{Paid, Stopped}
-use Rattle.lists.specs.Lists.{union, push, retainAll, collect, permitsIn, permits, sameIds}
+use Rattle.lists.specs.Lists.{union, retainAll, collect, permitsIn, permits, sameIds}
 use Rattle.lists.specs.Answers.{Answers, told, tried, Pushes, Retains, chargedAs}
 use Rattle.lattice.specs.declared.Reason.{Reason}
 use Rattle.lattice.specs.declared.Reason.the-variants.{None, Some}
@@ -38,7 +37,7 @@ use Rattle.lattice.specs.declared.Widening.the-variants.{SymbolSize, Val
 use Rattle.lattice.specs.declared.Made.{Made}
 use Rattle.lattice.specs.Value.{Value, value}
 use Rattle.lattice.specs.Constants.{constantAt}
-use Rattle.lattice.specs.Lattice.{bottom, numeric, retained, constant, copiedList, copiedAs, copied, sameLists, same, first, joinedOf, joinLists, join, permitted, keepOne, sift, reduce, source, meetLists, meet, refine}
+use Rattle.lattice.specs.Lattice.{bottom, numeric, retained, constant, copiedAs, copied, sameLists, same, first, joinLists, join, permitted, keepOne, sift, reduce, source, meetLists, meet, refine}
 use Rattle.lattice.specs.declared.Outcome.the-variants.{Done}
 use Rattle.lattice.specs.declared.Outcome.the-variants as outcome
 use Rattle.lattice.specs.declared.Sifted.{Sifted}

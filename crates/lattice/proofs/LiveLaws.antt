@@ -1,28 +1,24 @@
 -- Live entries after each operation: those before plus the answer's list where it completes, those before where it is stopped.
-use Prim.Native.Nat.{ℕ, zero, suc, _+_, min}
+use Prim.Native.Nat.{ℕ, _+_}
 use native.Mathlib.Omega.{arith}
 use mathlib.Core.Path.{_≡_, refl, sym}
 use mathlib.Core.Bool.{Bool, true, false, cond, _&&_}
 use mathlib.Core.List.{List, [], _∷_, _++_}
 use mathlib.Core.Option.{Option, some, none}
-use lib.Dec.{ltb, leb, eqb}
+use lib.Dec.{leb, eqb}
 use lib.ListN.{length, length-append}
-use Rattle.limits.specs.declared.Stop.{Stop}
-use Rattle.limits.specs.Metered.{Metered, pure, _>>=_, _>>_}
-use Rattle.limits.specs.Meter.{Meter, work, retain, release, holding}
-use Rattle.limits.proofs.Live.{Lives, live-pure, live-test, live-bind, live-then, live-fold, live-work, live-retain, live-release, live-holding, live-as, live-beside}
+use Rattle.limits.proofs.Live.{Lives, live-pure, live-test, live-bind, live-then, live-fold, live-work, live-retain, live-as, live-beside}
 use Rattle.interval.specs.declared.Interval.{Interval}
 use Rattle.interval.specs.declared.Bound.{Bound}
 use Rattle.interval.specs.declared.Constant.{Constant}
 use Rattle.interval.specs.declared.Constant.the-variants.{Number, Name, Large}
-use Rattle.interval.specs.Bound.{bottomOf, hullBound, meetBound, sameBound, allowsOf}
-use Rattle.interval.specs.Bound as bounds
-use Rattle.lists.specs.Lists.{union, push}
+use Rattle.interval.specs.Bound.{bottomOf, meetBound, sameBound, allowsOf}
+use Rattle.lists.specs.Lists.{union}
 use Rattle.lists.proofs.LiveLaws.{listSize, push-lives, work-lives, retain-all-lives, collect-lives, permits-lives, same-ids-live}
 use Rattle.lattice.specs.declared.Reason.{Reason}
-use Rattle.lattice.specs.Value.{Value, value}
+use Rattle.lattice.specs.Value.{Value}
 use Rattle.lattice.specs.Constants.{constantAt}
-use Rattle.lattice.specs.Lattice.{numeric, retained, constant, copiedList, copied, sameLists, same, first, joinedOf, joinLists, join, permitted, keepOne, sift, reduce, source, meetLists, meet, refine}
+use Rattle.lattice.specs.Lattice.{numeric, retained, constant, copiedList, copied, sameLists, same, joinedOf, joinLists, join, permitted, keepOne, sift, reduce, source, meetLists, meet, refine}
 
 -- the entries of a value's list
 abbrev pub size : Value → ℕ

@@ -1,14 +1,13 @@
 -- The two loops of a meet, over plain lists and counts: what stays of a list, and the hull of what it holds.
-use Prim.Native.Nat.{ℕ, suc, _+_, _-_, _<_, _≤_}
+use Prim.Native.Nat.{ℕ, _+_, _-_, _<_, _≤_}
 use native.Mathlib.Omega.{arith}
 use native.Mathlib.Numerals.{add-one}
 use mathlib.Core.Path.{_≡_, refl, sym, ap, _∙_}
-use mathlib.Core.Bool.{Bool, true, false, cond}
 use mathlib.Core.List.{List, [], _∷_, _++_}
 use lib.ListN.{length, take, drop, set, getD, length-take, length-set, drop-of-length-le}
 use lib.Seq.{take-suc-set, drop-cons}
 use Rattle.limits.specs.declared.Stop.{Stop}
-use Rattle.limits.specs.Metered.{Run, going, stopped, Metered, pure, _>>=_, _>>_, foldM}
+use Rattle.limits.specs.Metered.{going, stopped, Metered, pure, _>>_, foldM}
 use Rattle.limits.specs.Meter.{Meter, meter, work, holding}
 use Rattle.limits.proofs.Monad.{bind-stop, bind-on, then-stop, then-on, pure-is}
 use Rattle.limits.proofs.CodeLaws.{hold-on, hold-stop}
@@ -22,7 +21,6 @@ use Rattle.lists.specs.declared.Trial.the-variants as trial
 use Rattle.lists.specs.Lists.{headOf}
 use Rattle.lists.specs.Answers.{tried}
 use Rattle.lists.proofs.CodeLaws.{here-is, past-is}
-use Rattle.lattice.specs.declared.Reduced.{Reduced}
 use Rattle.lattice.specs.declared.Reduced.the-variants.{To}
 use Rattle.lattice.specs.declared.Reduced.the-variants as reduced
 use Rattle.lattice.specs.Value.{Value}

@@ -1,6 +1,6 @@
 -- Abstract values as lattice.rs has them: a bound, perhaps a list of constant ids, and perhaps the reason why there is none.
 use Prim.Native.Nat.{ℕ}
-use mathlib.Core.Bool.{Bool, true, false, cond}
+use mathlib.Core.Bool.{cond}
 use mathlib.Core.List.{List}
 use mathlib.Core.Option.{Option, some, none}
 use lib.ListN.{take}

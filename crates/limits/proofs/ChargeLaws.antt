@@ -1,10 +1,10 @@
 -- Theorems about the charges, for every resource at once: when one is refused, what a refused one tells and leaves, what an accepted one adds.
-use Prim.Native.Nat.{ℕ, _+_, _-_, _*_, _/_, _%_, _^_, _<_, _≤_}
+use Prim.Native.Nat.{ℕ, _+_, _<_, _≤_}
 use native.Mathlib.Omega.{arith}
 use mathlib.Core.Path.{_≡_, refl, sym, ap, subst, _∙_}
 use mathlib.Core.Logic.{_↔_}
 use mathlib.Core.Bool.{Bool, true, false, cond}
-use borrow.Author.Tests.{leb-true, leb-false, eqb-true, eqb-false, eq-eqb, ne-eqb}
+use borrow.Author.Tests.{leb-true, leb-false, eq-eqb, ne-eqb}
 use lib.Dec.{leb, eqb}
 use Rattle.limits.specs.declared.Resource.{Resource}
 use Rattle.limits.specs.declared.Resource.the-variants.{Work, Predicates, Positions, Links, ValueEntries, Rounds, InspectedBytes}
@@ -18,9 +18,9 @@ use Rattle.limits.specs.declared.Refusal.the-variants.{Closed, Shape, Fu
 use Rattle.limits.specs.Charge.{stopOf, observed, chargeOf}
 use Rattle.limits.specs.Refusal.{resourceNumber, told}
 use Rattle.limits.specs.Records.{limitOf, countOf, withCount, statistics, same?, withStatistics}
-use Rattle.limits.specs.Metered.{Run, going, stopped, zoom, through, mapped}
+use Rattle.limits.specs.Metered.{Run, going, stopped, through, mapped}
 use Rattle.limits.specs.Budget.{charge, charged}
-use Rattle.limits.specs.Meter.{Meter, meterOf, withMeter, metered}
+use Rattle.limits.specs.Meter.{meterOf, withMeter, metered}
 use Rattle.limits.specs.Meter as inner
 
 -- ---- the observed sum, over 64 bits too

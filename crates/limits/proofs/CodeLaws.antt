@@ -1,7 +1,7 @@
 -- What the code's answers are, over plain variables: each way out of `charge`, of `Budget::charge`, and of the small functions around them.
 use Prim.Native.Nat.{ℕ, _+_, _-_, _*_, _/_, _%_, _^_, _<_, _≤_, min}
 use native.Mathlib.Omega.{arith}
-use mathlib.Core.Path.{_≡_, refl, sym, ap, _∙_}
+use mathlib.Core.Path.{_≡_, sym, ap, _∙_}
 use mathlib.Core.Bool.{Bool, true, false, cond}
 use borrow.Author.Tests.{le-leb, lt-leb}
 use lib.Dec.{leb}

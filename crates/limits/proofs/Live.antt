@@ -1,6 +1,6 @@
 -- How many entries are live afterwards. A computation is begun while n entries of the one who runs it are live beside any others: where it
 -- completes, `size` of its value says how many there are instead, and where it is stopped all of them are gone.
-use Prim.Native.Nat.{ℕ, _+_, _-_}
+use Prim.Native.Nat.{ℕ, _+_}
 use native.Mathlib.Omega.{arith}
 use mathlib.Core.Path.{_≡_, refl, subst}
 use mathlib.Core.Bool.{Bool, true, false, cond}
@@ -11,7 +11,7 @@ use Rattle.limits.specs.declared.Stop.{Stop}
 use Rattle.limits.specs.declared.Charged.{Charged}
 use Rattle.limits.specs.declared.Charged.the-variants.{Paid, Stopped}
 use Rattle.limits.specs.Charge.{stopOf, chargeOf}
-use Rattle.limits.specs.Metered.{Run, going, stopped, Metered, pure, halt, after, _>>=_, _>>_, foldM, mapped, through}
+use Rattle.limits.specs.Metered.{Run, going, stopped, Metered, pure, after, _>>=_, _>>_, foldM, mapped, through}
 use Rattle.limits.specs.Meter.{Meter, work, retain, release, released, holding, charged, withWork, withEntries}
 
 module _ {A : Type 0} where

@@ -1,5 +1,5 @@
 -- Metered computations: the laws of the monad; `Ensures`, what holds of the value where one completes; `Steady`, the same value from any two states.
-use mathlib.Core.Path.{_≡_, refl, sym, ap, subst, _∙_}
+use mathlib.Core.Path.{_≡_, refl, subst}
 use mathlib.Core.Bool.{Bool, true, false, cond}
 use mathlib.Core.List.{List, [], _∷_, _++_, List·Memᴰ, List·Memᴰ·head, List·Memᴰ·tail}
 use Rattle.integers.specs.Lists.{All}

@@ -1,6 +1,5 @@
 -- The part of a budget that lattice and transfer charge, work and live entries, each beside its limit. Code hands it through as plain numbers.
 use Prim.Native.Nat.{ℕ, _-_}
-use Rattle.limits.specs.declared.Resource.{Resource}
 use Rattle.limits.specs.declared.Resource.the-variants.{Work, ValueEntries}
 use Rattle.limits.specs.declared.Stop.{Stop}
 use Rattle.limits.specs.declared.Charged.{Charged}

@@ -3,7 +3,7 @@
 ghost use mathlib.Core.Path.{_≡_};
 ghost use Prim.Native.Nat.{_-_};
 ghost use Rattle.limits.specs.Charge.{chargeOf};
-ghost use Rattle.limits.specs.Records.{countOf, limitOf, withCount, withStatistics, fresh};
+ghost use Rattle.limits.specs.Records.{countOf, limitOf, withCount, fresh};
 ghost use Rattle.limits.specs.Refusal.{resourceNumber, told};
 ghost use Rattle.limits.specs.Budget.{ran, charge, released, widenedOnce};
 

@@ -2,12 +2,12 @@
 use Prim.Native.Nat.{ℕ, suc, _+_, _-_, _<_, _≤_, min}
 use native.Mathlib.Omega.{arith}
 use native.Mathlib.Numerals.{add-one}
-use mathlib.Core.Path.{_≡_, refl, sym, ap, subst, _∙_}
-use mathlib.Core.Bool.{Bool, true, false, cond}
+use mathlib.Core.Path.{_≡_, refl, ap, _∙_}
+use mathlib.Core.Bool.{Bool, true, false}
 use mathlib.Core.List.{List, [], _∷_}
 use mathlib.Core.Option.{Option, some, none}
 use borrow.Author.Tests.{ltb-true, ltb-false, lt-ltb, le-ltb, le-leb, lt-leb, eq-eqb, ne-eqb}
-use lib.Dec.{ltb, leb, eqb}
+use lib.Dec.{ltb}
 use lib.ListN.{length, take, drop, getD, length-take, drop-of-length-le}
 use lib.Seq.{drop-cons, getD-take}
 use Rattle.limits.specs.declared.Stop.{Stop}
@@ -16,11 +16,9 @@ use Rattle.limits.specs.declared.Charged.the-variants.{Paid, Stopped}
 use Rattle.limits.specs.declared.Resource.the-variants.{Work, ValueEntries}
 use Rattle.limits.specs.Charge.{chargeOf}
 use Rattle.limits.specs.Metered.{Run, going, stopped, pure, after, _>>=_, _>>_, mapped, through}
-use Rattle.limits.specs.Meter.{Meter, meter, work, retain, release}
+use Rattle.limits.specs.Meter.{Meter, meter, work, release}
 use Rattle.limits.proofs.CodeLaws.{work-paid, work-stopped, retain-paid, retain-stopped}
-use Rattle.search.specs.declared.Ordering.{Ordering}
-use Rattle.search.specs.Seek.{Place, found, absent, found?, seek, compareℕ}
-use Rattle.lists.specs.declared.Verdict.{Verdict}
+use Rattle.search.specs.Seek.{Place, found, absent, seek, compareℕ}
 use Rattle.lists.specs.declared.Verdict.the-variants.{Yes, No}
 use Rattle.lists.specs.declared.Verdict.the-variants as verdict
 use Rattle.lists.specs.declared.Trial.{Trial}
@@ -28,13 +26,12 @@ use Rattle.lists.specs.declared.Trial.the-variants.{Taken, Left}
 use Rattle.lists.specs.declared.Trial.the-variants as trial
 use Rattle.lists.specs.declared.Found.{Found}
 use Rattle.lists.specs.declared.Found.the-variants.{Nothing, Id}
-use Rattle.lists.specs.declared.Next.{Next}
-use Rattle.lists.specs.declared.Next.the-variants.{End, Take}
+use Rattle.lists.specs.declared.Next.the-variants.{Take}
 use Rattle.lists.specs.Lists.{headOf, stepOf, nextOf, push, retainAll, takeOne, permitsIn, sameIds}
 use Rattle.lists.specs.declared.Kept.the-variants.{All, None}
 use Rattle.lists.specs.declared.Kept.the-variants as kept
 use Rattle.lists.specs.declared.Merged.{Merged}
-use Rattle.lists.specs.Answers.{merged, Pushes, Retains, Answers, told, tried}
+use Rattle.lists.specs.Answers.{merged, Pushes, Retains, Answers, tried}
 
 -- ---- one entry more, and one step of a merge
 

@@ -1,7 +1,7 @@
 -- What the metered list operations give where they complete: permits is membership, a collected list is kept exactly if it fits the width.
-use Prim.Native.Nat.{ℕ, zero, suc, _+_, _<_, _≤_, min}
+use Prim.Native.Nat.{ℕ, suc, _+_, _<_, _≤_, min}
 use native.Mathlib.Omega.{arith}
-use mathlib.Core.Path.{_≡_, refl, sym, ap, _∙_}
+use mathlib.Core.Path.{_≡_, refl, sym, _∙_}
 use mathlib.Core.Bool.{Bool, true, false, cond}
 use mathlib.Core.List.{List, [], _∷_, _++_, append-assoc, append-nil}
 use mathlib.Core.Option.{Option, some, none}
@@ -10,11 +10,10 @@ use lib.Dec.{ltb, leb}
 use lib.ListN.{length, getD, length-append}
 use Rattle.integers.specs.Lists.{Increasing}
 use Rattle.integers.proofs.ListLaws.{rises, has, has-at, at-has}
-use Rattle.limits.specs.Metered.{pure}
 use Rattle.limits.specs.Meter.{work, release, holding}
 use Rattle.limits.proofs.Monad.{Ensures, by-pure, by-test, bind, then}
 use Rattle.search.specs.declared.Ordering.{Ordering}
-use Rattle.search.specs.declared.Ordering.the-variants.{Less, Equal, Greater}
+use Rattle.search.specs.declared.Ordering.the-variants.{Less, Greater}
 use Rattle.search.specs.Seek.{Place, found, absent, found?, compareℕ}
 use Rattle.search.proofs.Turns.{is-less, is-greater, less-is, greater-is, equal-is}
 use Rattle.search.proofs.Complete.{Rising, Ends, search-ends}

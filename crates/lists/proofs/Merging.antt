@@ -1,20 +1,20 @@
 -- The loop of a merge, over plain lists and counts: what one turn takes of the two lists, and where the loop is left.
-use Prim.Native.Nat.{ℕ, suc, _+_, _-_, _<_, _≤_, min}
+use Prim.Native.Nat.{ℕ, _+_, _-_, _<_, _≤_, min}
 use native.Mathlib.Omega.{arith}
 use native.Mathlib.Numerals.{add-one}
 use mathlib.Core.Path.{_≡_, refl, sym, ap, subst, _∙_}
-use mathlib.Core.Bool.{Bool, true, false, cond}
+use mathlib.Core.Bool.{true}
 use mathlib.Core.List.{List, [], _∷_, _++_}
-use mathlib.Core.Option.{Option, some, none}
+use mathlib.Core.Option.{some, none}
 use borrow.Author.Tests.{lt-ltb, le-ltb, leb-true}
-use lib.Dec.{ltb, leb}
+use lib.Dec.{leb}
 use lib.ListN.{length, take, drop, set, length-take, length-set}
 use lib.Seq.{take-suc-set}
 use Rattle.integers.proofs.ListLaws.{Compared, less, more, same, compared}
 use Rattle.limits.specs.declared.Stop.{Stop}
-use Rattle.limits.specs.Metered.{Run, going, stopped, pure, after, _>>=_}
+use Rattle.limits.specs.Metered.{going, stopped, pure, after, _>>=_}
 use Rattle.limits.specs.Meter.{Meter, meter}
-use Rattle.limits.proofs.Monad.{Holds, Ensures}
+use Rattle.limits.proofs.Monad.{Holds}
 use Rattle.lists.specs.declared.Found.{Found}
 use Rattle.lists.specs.declared.Found.the-variants.{Nothing, Id}
 use Rattle.lists.specs.declared.Next.{Next}
@@ -22,7 +22,7 @@ use Rattle.lists.specs.declared.Next.the-variants.{End, Take}
 use Rattle.lists.specs.declared.Trial.{Trial}
 use Rattle.lists.specs.declared.Trial.the-variants.{Taken, Left}
 use Rattle.lists.specs.declared.Trial.the-variants as trial
-use Rattle.lists.specs.Lists.{headOf, stepOf, nextOf, mix, union, takeOne, collect}
+use Rattle.lists.specs.Lists.{headOf, stepOf, nextOf, union, takeOne, collect}
 use Rattle.lists.specs.Answers.{tried}
 use Rattle.lists.proofs.ListLaws.{take-is}
 use Rattle.lists.proofs.CodeLaws.{Here, here-is, past-is}

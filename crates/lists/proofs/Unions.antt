@@ -1,13 +1,12 @@
 -- The union of two strictly increasing lists is strictly increasing, and has what either has: for lists of any length, so for every width.
-use Prim.Native.Nat.{ℕ, _<_, _≤_}
+use Prim.Native.Nat.{ℕ, _<_}
 use native.Mathlib.Omega.{arith}
-use mathlib.Core.Path.{_≡_, sym}
+use mathlib.Core.Path.{_≡_}
 use mathlib.Core.Logic.{_↔_, _⊎_, inl, inr, ⊎-elim}
 use mathlib.Core.List.{List, [], _∷_, List·Memᴰ, List·Memᴰ·head, List·Memᴰ·tail, List·Memᴰ·cases-cons}
 use borrow.Author.Tests.{lt-ltb, le-ltb}
-use lib.Dec.{ltb}
 use Rattle.integers.specs.Lists.{Above, Increasing}
-use Rattle.integers.proofs.ListLaws.{Compared, less, more, same, compared, above-increasing}
+use Rattle.integers.proofs.ListLaws.{Compared, less, more, same, compared}
 use Rattle.lists.specs.Lists.{mix, union}
 
 -- ---- membership

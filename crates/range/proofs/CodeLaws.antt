@@ -1,13 +1,13 @@
 -- What the code's answers are, over plain variables.
 use native.Mathlib.Omega.{arith}
-use mathlib.Core.Path.{_≡_, refl, sym, ap, ap₂, _∙_}
-use mathlib.Core.Bool.{Bool, true, false, cond, _&&_}
-use lib.IntN.{ℤ, pos, negℤ, _+ℤ_, _-ℤ_, _*ℤ_, +ℤ-idl}
-use lib.Signed.{ltZ, leZ}
+use mathlib.Core.Path.{_≡_, ap₂, _∙_}
+use mathlib.Core.Bool.{true, false}
+use lib.IntN.{ℤ, pos, negℤ, _-ℤ_, _*ℤ_, +ℤ-idl}
+use lib.Signed.{ltZ}
 use mir.Syntax.{w32, w64}
 use mir.Val.{SFits, toZ, ofZ}
 use mir.Facts.{toZ-ofZ}
-use Rattle.integers.specs.Order.{up, dn, Le, Lt, minZ, maxZ, least32, greatest32, Number, number?}
+use Rattle.integers.specs.Order.{Le, minZ, maxZ, least32, greatest32, Number, number?}
 use Rattle.integers.proofs.Tests.{and-false}
 use Rattle.integers.proofs.OrderLaws.{lt-yes, lt-no, yes-le, no-le, yes-number, too-low, too-high}
 use Rattle.integers.proofs.Bits.{lt-at, number-fits}

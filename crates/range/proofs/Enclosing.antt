@@ -1,11 +1,9 @@
 -- Every result over the operands lies in the answer, or the range declines: none that fits 32 bits is left out. So 01's one kind of
 -- difference, a range that leaves out a result that fits, has no case among these four operations.
-use native.Mathlib.Omega.{arith}
-use mathlib.Core.Path.{_≡_, refl}
-use mathlib.Core.Bool.{Bool, true, false, cond, _&&_}
+use mathlib.Core.Bool.{_&&_}
 use lib.IntN.{ℤ, negℤ, _+ℤ_, _-ℤ_, _*ℤ_}
 use lib.Signed.{leZ}
-use Rattle.integers.specs.Order.{up, dn, Le, Between, Number, number?}
+use Rattle.integers.specs.Order.{Le, Between, Number, number?}
 use Rattle.integers.proofs.Tests.{by-cond, and-left, and-right}
 use Rattle.integers.proofs.OrderLaws.{le-yes, number-yes}
 use Rattle.integers.proofs.Sums.{add-grows, sub-grows, neg-falls}

@@ -1,7 +1,7 @@
 //! Conservative ranges for checked arithmetic (range.rs): sums, differences, products and negation, worked in 64 bits.
 //! An answer encloses every result over its operands, with both ends in 32 bits; otherwise the range declines.
 ghost use mathlib.Core.Path.{_≡_};
-ghost use lib.IntN.{negℤ, _+ℤ_, _-ℤ_, _*ℤ_};
+ghost use lib.IntN.{_+ℤ_, _-ℤ_, _*ℤ_};
 ghost use Rattle.integers.specs.Order.{minZ, maxZ};
 ghost use Rattle.range.specs.Range.{checkedOf, pointOf, boundsOf, sumOf, differenceOf, cornersOf, productOf, negationOf};
 

@@ -1,5 +1,5 @@
 -- What the code of rows reads and writes is what the definitions say.
-use Prim.Native.Nat.{ℕ, zero, suc, min, _+_, _-_, _*_, _^_, _≤_, _<_}
+use Prim.Native.Nat.{ℕ, zero, suc, min, _+_, _-_, _*_, _≤_, _<_}
 use native.Mathlib.Omega.{arith}
 use native.Mathlib.Nat.{add-zero}
 use native.Mathlib.Numerals.{towards-suc}
@@ -9,16 +9,12 @@ use mathlib.Core.List.{List}
 use mathlib.Core.Option.{some, none}
 use lib.Dec.{eqb}
 use lib.IntN.{ℤ}
-use lib.Signed.{leZ, mag}
 use lib.ListN.{length, getD, take, drop, set, length-take, length-drop, length-map, List·getD-eq-default, List·getD-map}
 use lib.Seq.{sets, getD-take, getD-drop}
-use mir.Syntax.{w32}
-use mir.Val.{toZ, ofZ}
-use Rattle.integers.proofs.Bits.{back32}
 use Rattle.integers.proofs.Stores.{sets-min, drop-min, take-min, Filled, filled-all, Writing, writing-more, writing-all}
 use Rattle.interval.specs.declared.Integrality.{Integrality}
 use Rattle.interval.specs.declared.Interval.{Interval}
-use Rattle.interval.specs.declared.Interval.the-variants.{Bottom, Bounded}
+use Rattle.interval.specs.declared.Interval.the-variants.{Bottom}
 use Rattle.interval.specs.declared.Bound.{Bound}
 use Rattle.interval.specs.Interval.{ascendingOf}
 use Rattle.cells.specs.Cells.{ofCell}

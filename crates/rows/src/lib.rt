@@ -5,7 +5,7 @@ ghost use Prim.Native.Nat.{min, _+_, _-_, _*_, _≤_};
 ghost use lib.ListN.{length, getD, take, drop};
 ghost use lib.Seq.{sets};
 ghost use Rattle.cells.specs.Cells.{ofCell};
-ghost use Rattle.lattice.specs.Value.{valueOf, reasonNumber};
+ghost use Rattle.lattice.specs.Value.{valueOf};
 ghost use Rattle.rows.specs.Row.{row, padded, integralityCell, caseCell, lowCell, highCell, boundCells, keptCell, listOf, integralityOf, intervalOf, reasonOf, idsOf, valueAt, put};
 use cells::cell_at;
 use cells::of_cell;

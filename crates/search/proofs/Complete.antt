@@ -1,13 +1,12 @@
 -- A search is complete where the items stand in order: what it finds is equal, and what it does not find is nowhere.
-use Prim.Native.Nat.{ℕ, zero, suc, _+_, _-_, _/_, _≤_, _<_}
+use Prim.Native.Nat.{ℕ, zero, suc, _+_, _≤_, _<_}
 use native.Mathlib.Omega.{arith}
 use native.Mathlib.Decide.{decLt}
 use mathlib.Core.Path.{_≡_, refl, sym, subst}
-use mathlib.Core.Bool.{Bool, true, false, cond}
 use borrow.Author.Tests.{ltb-true, ltb-false}
 use lib.Dec.{ltb}
 use Rattle.limits.specs.declared.Stop.{Stop}
-use Rattle.limits.specs.Metered.{going, Metered, pure, _>>_}
+use Rattle.limits.specs.Metered.{going, Metered}
 use Rattle.limits.specs.Meter.{Meter, work}
 use Rattle.limits.proofs.Monad.{Holds, Ensures, weaken, by-pure, by-test, then, Steady, steady-pure, steady-unit, steady-test, steady-then}
 use Rattle.search.specs.declared.Ordering.{Ordering}

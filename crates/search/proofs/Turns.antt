@@ -1,17 +1,15 @@
 -- The turns of a search: where it stands, and what each way out of a turn makes of it.
-use Prim.Native.Nat.{ℕ, zero, suc, _+_, _-_, _/_, _≤_, _<_}
+use Prim.Native.Nat.{ℕ, zero, suc, _+_, _≤_, _<_}
 use native.Mathlib.Omega.{arith}
 use mathlib.Core.Path.{_≡_, sym, _∙_}
-use mathlib.Core.Bool.{Bool, true, false, cond}
 use borrow.Author.Tests.{lt-ltb, le-ltb}
-use lib.Dec.{ltb}
 use Rattle.integers.proofs.ListLaws.{Compared, less, more, same, compared}
 use Rattle.limits.specs.declared.Stop.{Stop}
 use Rattle.limits.specs.Metered.{Run, going, stopped, pure, after, _>>=_, _>>_}
 use Rattle.limits.specs.Meter.{Meter, work}
 use Rattle.search.specs.declared.Ordering.{Ordering}
 use Rattle.search.specs.declared.Ordering.the-variants.{Less, Equal, Greater}
-use Rattle.search.specs.Seek.{Place, found, absent, by, middle, seek, compareℕ}
+use Rattle.search.specs.Seek.{Place, found, absent, middle, seek, compareℕ}
 
 -- the answer x is that of the search from here, with turns enough
 pub data At (x : Run Stop Meter Place) (probe : ℕ → Ordering) (low high : ℕ) (m : Meter) : Type 0 where

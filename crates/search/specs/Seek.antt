@@ -5,7 +5,7 @@ use lib.Dec.{ltb}
 use lib.IntN.{ℤ}
 use lib.Signed.{ltZ}
 use Rattle.limits.specs.declared.Stop.{Stop}
-use Rattle.limits.specs.Metered.{Metered, pure, _>>=_, _>>_}
+use Rattle.limits.specs.Metered.{Metered, pure, _>>_}
 use Rattle.limits.specs.Meter.{Meter, work}
 use Rattle.search.specs.declared.Ordering.{Ordering}
 use Rattle.search.specs.declared.Ordering.the-variants.{Less, Equal, Greater}

@@ -2,14 +2,13 @@
 use Prim.Native.Nat.{ℕ, _+_, _-_, _*_, _<_, _≤_}
 use native.Mathlib.Omega.{arith}
 use native.Mathlib.Numerals.{add-one}
-use mathlib.Core.Path.{_≡_, refl, sym, ap, _∙_}
-use mathlib.Core.Bool.{Bool, true, false, cond, _&&_}
+use mathlib.Core.Path.{_≡_, refl, sym, _∙_}
+use mathlib.Core.Bool.{Bool, true, false}
 use mathlib.Core.List.{List}
 use borrow.Author.Tests.{leb-true, leb-false, ltb-true, lt-ltb, le-ltb, le-leb, lt-leb, eq-eqb, ne-eqb}
-use lib.Dec.{leb, ltb, eqb}
-use lib.ListN.{length, getD, set}
+use lib.Dec.{leb, ltb}
+use lib.ListN.{length, set}
 use Rattle.limits.specs.declared.Limits.{Limits}
-use Rattle.limits.specs.declared.Resource.{Resource}
 use Rattle.limits.specs.declared.Stop.{Stop}
 use Rattle.limits.specs.declared.Budget.{Budget}
 use Rattle.limits.specs.declared.Billed.{Billed}
@@ -19,20 +18,19 @@ use Rattle.limits.specs.declared.Refusal.{Refusal}
 use Rattle.limits.specs.Refusal.{Told, told}
 use Rattle.limits.specs.Records.{fresh}
 use Rattle.limits.specs.Metered.{Run, going, stopped, Metered, pure, after, _>>=_, _>>_, mapped, through}
-use Rattle.limits.specs.Budget.{ran, charge, work, predicates, positions}
+use Rattle.limits.specs.Budget.{ran, work, predicates, positions}
 use Rattle.limits.proofs.Monad.{then-on, then-stop}
 use Rattle.integers.proofs.Tests.{and-left, and-right}
 use Rattle.lattice.specs.Value.{Value}
 use Rattle.lattice.specs.Lattice.{bottom}
 use Rattle.rows.specs.Row.{row, put}
 use Rattle.store.specs.declared.Context.the-variants.{Some}
-use Rattle.store.specs.declared.Phase.{Phase}
 use Rattle.store.specs.declared.Phase.the-variants.{Open, Absent}
 use Rattle.store.specs.declared.Store.{Store}
 use Rattle.store.specs.declared.Done.{Done}
 use Rattle.store.specs.declared.Done.the-variants.{Ok, Refused}
 use Rattle.store.specs.Store.{admits, withBudget, withContext, withPredicate, empty, freshOf}
-use Rattle.store.specs.Calls.{charged, declared, bottoms, roomFor, Tables, tables, inHeader, predicateCall, contextCall, workCall, firstOf, arityOf, argumentCall}
+use Rattle.store.specs.Calls.{charged, declared, bottoms, roomFor, tables, inHeader, predicateCall, contextCall, workCall, firstOf, arityOf, argumentCall}
 use Rattle.store.specs.Answers.{done}
 
 -- ---- a fresh store

@@ -1,18 +1,17 @@
 -- The calls of a store, on the header and the lent tables as they stand: an answer or a refusal, and the header and tables afterwards.
 use Prim.Native.Nat.{ℕ, zero, suc, _+_, _*_}
-use mathlib.Core.Bool.{Bool, true, false, cond, _&&_}
+use mathlib.Core.Bool.{Bool, cond, _&&_}
 use mathlib.Core.List.{List, [], _∷_}
 use lib.Dec.{leb, ltb, eqb}
 use lib.ListN.{length, getD}
 use lib.Seq.{sets}
-use Rattle.limits.specs.declared.Resource.the-variants.{Work}
 use Rattle.limits.specs.declared.Stop.{Stop}
 use Rattle.limits.specs.declared.Budget.{Budget}
 use Rattle.limits.specs.declared.Refusal.{Refusal}
 use Rattle.limits.specs.declared.Refusal.the-variants.{Closed, Shape, Full, Limit, Missing}
 use Rattle.limits.specs.Refusal.{Told, told}
-use Rattle.limits.specs.Metered.{Metered, going, stopped, pure, _>>=_, _>>_, whole, zoom, stopping}
-use Rattle.limits.specs.Budget.{charge, work, predicates, positions}
+use Rattle.limits.specs.Metered.{Metered, going, stopped, pure, _>>_, whole, zoom, stopping}
+use Rattle.limits.specs.Budget.{work, predicates, positions}
 use Rattle.lattice.specs.Lattice.{bottom}
 use Rattle.rows.specs.Row.{row, put}
 use Rattle.store.specs.declared.Context.the-variants.{Some}

@@ -1,19 +1,18 @@
 -- What the code's answers are, over plain variables: one law for each way out of a step.
-use Prim.Native.Nat.{ℕ, zero, suc, _+_, _-_, _≤_}
+use Prim.Native.Nat.{ℕ, _+_, _-_, _≤_}
 use native.Mathlib.Omega.{arith}
 use mathlib.Core.Path.{_≡_, sym, ap, _∙_}
 use mathlib.Core.Bool.{true, false}
 use mathlib.Core.List.{List}
-use lib.IntN.{ℤ, pos, negsuc, _+ℤ_, _-ℤ_}
+use lib.IntN.{ℤ, pos, _+ℤ_, _-ℤ_}
 use lib.Signed.{ltZ}
-use borrow.Author.Tests.{lt-ltb, le-ltb}
-use mir.Syntax.{w32}
+use mir.Syntax.{w32, w64}
 use mir.Val.{SFits, toZ, ofZ}
 use mir.Facts.{toZ-ofZ}
-use Rattle.integers.specs.Order.{number?}
+use Rattle.integers.specs.Order.{number?, least32, greatest32}
 use Rattle.integers.specs.Lists.{inserted}
-use Rattle.integers.proofs.Bits.{same-bits, sf32, fits-number, lt-at}
-use Rattle.integers.proofs.OrderLaws.{yes-number, too-low, too-high}
+use Rattle.integers.proofs.Bits.{same-bits, number-fits, fits-number, lt-at, sf32, add-fits, sub-fits, widened-is}
+use Rattle.integers.proofs.OrderLaws.{lt-yes, lt-no, yes-number, too-low, too-high}
 use Rattle.limits.specs.declared.Resource.the-variants.{Work}
 use Rattle.limits.specs.declared.Stop.{Stop}
 use Rattle.limits.specs.declared.Budget.{Budget}
@@ -57,31 +56,34 @@ pub seeks : (t : List ℤ) {v : ℤ} (n w mw : ℕ) (r : Sought) → SFits w32 v
 unfolding seekNumber
 seeks t n w mw r f h = record { at = λ e me. rw (toZ-ofZ f) at (h e me) }
 
--- one less and one more, but for the two ends
+-- ---- a number of 64 bits, by the tests of the code
+
+module _ (z : ℤ) (f : SFits w64 z) where
+  pub below32 : ltZ (toZ w64 (ofZ w64 z)) least32 ≡ true → number? z ≡ false
+  below32 e = too-low z (lt-yes z least32 (rw (toZ-ofZ f) at e))
+
+  pub above32 : ltZ greatest32 (toZ w64 (ofZ w64 z)) ≡ true → number? z ≡ false
+  above32 e = too-high z (lt-yes greatest32 z (rw (toZ-ofZ f) at e))
+
+  pub within32 : ltZ (toZ w64 (ofZ w64 z)) least32 ≡ false → ltZ greatest32 (toZ w64 (ofZ w64 z)) ≡ false → SFits w32 z
+  within32 e g = number-fits z (lt-no z least32 (rw (toZ-ofZ f) at e), lt-no greatest32 z (rw (toZ-ofZ f) at g))
+
+-- one less and one more, worked in 64 bits
 module _ (z : ℤ) (f : SFits w32 z) where
-  pub less-one : (ofZ w32 z ≡ 2147483648 → ⊥) → SFits w32 (z -ℤ pos 1)
-  less-one n = go z f n
-    where
-      go : (z : ℤ) → SFits w32 z → (ofZ w32 z ≡ 2147483648 → ⊥) → SFits w32 (z -ℤ pos 1)
-      go (pos zero) f n = record { sfits = omega arith }
-      go (pos (suc a)) f n = record { sfits = rw (le-ltb (suc a) 1 (omega arith)) (omega (arith, f .sfits)) }
-      go (negsuc a) f n = record { sfits = omega (arith, f .sfits) }
+  one-fits : SFits w32 (pos 1)
+  one-fits = sf32 (pos 1) (omega arith)
 
-  pub more-one : (ofZ w32 z ≡ 2147483647 → ⊥) → SFits w32 (z +ℤ pos 1)
-  more-one n = go z f n
-    where
-      go : (z : ℤ) → SFits w32 z → (ofZ w32 z ≡ 2147483647 → ⊥) → SFits w32 (z +ℤ pos 1)
-      go (pos a) f n = record { sfits = omega (arith, f .sfits) }
-      go (negsuc zero) f n = record { sfits = omega arith }
-      go (negsuc (suc a)) f n = record { sfits = rw (lt-ltb 1 (suc (suc a)) (omega arith)) (omega (arith, f .sfits)) }
+  pub less-fits : SFits w64 (toZ w64 (ofZ w64 (toZ w32 (ofZ w32 z))) -ℤ pos 1)
+  less-fits = rw (widened-is z f) (sub-fits z (pos 1) f one-fits)
 
--- and the ends have no neighbour
-module _ (z : ℤ) (f : SFits w32 z) where
-  pub least-over : ofZ w32 z ≡ 2147483648 → number? (z -ℤ pos 1) ≡ false
-  least-over e = let k : z ≡ negsuc 2147483647 = same-bits f (sf32 (negsuc 2147483647) (omega arith)) e in rw k (too-low (negsuc 2147483647 -ℤ pos 1) (omega arith))
+  pub less-is : toZ w64 (ofZ w64 (toZ w64 (ofZ w64 (toZ w32 (ofZ w32 z))) -ℤ pos 1)) ≡ z -ℤ pos 1
+  less-is = rw (widened-is z f) (toZ-ofZ (sub-fits z (pos 1) f one-fits))
 
-  pub greatest-over : ofZ w32 z ≡ 2147483647 → number? (z +ℤ pos 1) ≡ false
-  greatest-over e = let k : z ≡ pos 2147483647 = same-bits f (sf32 (pos 2147483647) (omega arith)) e in rw k (too-high (pos 2147483647 +ℤ pos 1) (omega arith))
+  pub more-fits : SFits w64 (toZ w64 (ofZ w64 (toZ w32 (ofZ w32 z))) +ℤ pos 1)
+  more-fits = rw (widened-is z f) (add-fits z (pos 1) f one-fits)
+
+  pub more-is : toZ w64 (ofZ w64 (toZ w64 (ofZ w64 (toZ w32 (ofZ w32 z))) +ℤ pos 1)) ≡ z +ℤ pos 1
+  more-is = rw (widened-is z f) (toZ-ofZ (add-fits z (pos 1) f one-fits))
 
 -- ---- what a new threshold costs
 

@@ -8,7 +8,6 @@ use search::Sought;
 ghost use mathlib.Core.Path.{_≡_};
 ghost use Prim.Native.Nat.{_+_, _≤_, _<_};
 ghost use lib.ListN.{length};
-ghost use lib.IntN.{pos, _+ℤ_, _-ℤ_};
 ghost use Rattle.limits.specs.declared.Resource.the-variants.{Work};
 ghost use Rattle.limits.specs.Records.{withCount, withStatistics};
 ghost use Rattle.limits.specs.Budget.{ran};
@@ -116,26 +115,18 @@ pub fn enter(table: &mut [i32], count: usize, value: i32, budget: Budget) -> Ent
     }
 }
 
-// One less, if it is a number of 32 bits.
-fn enter_below(table: &mut [i32], count: usize, value: i32, budget: Budget) -> Entered
+// A number that needs more than 32 bits is passed over.
+fn enter_number(table: &mut [i32], count: usize, value: i64, budget: Budget) -> Entered
     requires { ⌜ count < length (now table) ⌝ }
-    ensures { λ r. ⌜ entered r (now (table .exit)) ≡ enterNumber (value -ℤ pos 1) (entry budget count (now (table .entry))) ⌝ }
+    ensures { λ r. ⌜ entered r (now (table .exit)) ≡ enterNumber value (entry budget count (now (table .entry))) ⌝ }
 {
-    if value == -2147483648 {
+    if value < -2147483648 {
         return Entered::Done(budget, count);
     }
-    enter(table, count, value - 1, budget)
-}
-
-// One more, if it is a number of 32 bits.
-fn enter_above(table: &mut [i32], count: usize, value: i32, budget: Budget) -> Entered
-    requires { ⌜ count < length (now table) ⌝ }
-    ensures { λ r. ⌜ entered r (now (table .exit)) ≡ enterNumber (value +ℤ pos 1) (entry budget count (now (table .entry))) ⌝ }
-{
-    if value == 2147483647 {
+    if 2147483647 < value {
         return Entered::Done(budget, count);
     }
-    enter(table, count, value + 1, budget)
+    enter(table, count, value as i32, budget)
 }
 
 // `thresholds`: the value and its neighbours.
@@ -143,11 +134,12 @@ pub fn enter_around(table: &mut [i32], count: usize, value: i32, budget: Budget)
     requires { ⌜ count + 3 ≤ length (now table) ⌝ }
     ensures { λ r. ⌜ entered r (now (table .exit)) ≡ around value (entry budget count (now (table .entry))) ⌝ }
 {
-    match enter_below(table, count, value, budget) {
+    let wide = value as i64;
+    match enter_number(table, count, wide - 1, budget) {
         Entered::Stopped(stop, b, n) => Entered::Stopped(stop, b, n),
         Entered::Done(b, n) => match enter(table, n, value, b) {
             Entered::Stopped(stop, c, m) => Entered::Stopped(stop, c, m),
-            Entered::Done(c, m) => enter_above(table, m, value, c),
+            Entered::Done(c, m) => enter_number(table, m, wide + 1, c),
         },
     }
 }
