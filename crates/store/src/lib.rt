@@ -186,7 +186,7 @@ impl Store {
     }
 
     // One charge of a call.
-    pub fn charge(self, resource: Resource, amount: u64) -> Done
+    fn charge(self, resource: Resource, amount: u64) -> Done
         ensures { λ r. ⌜ done r ≡ charged (charge resource amount) self ⌝ }
     {
         let budget = self.budget;

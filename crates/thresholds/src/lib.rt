@@ -23,7 +23,7 @@ pub enum Entered {
 }
 
 // Binary search among the first `count` cells.
-pub fn seek_number(table: &[i32], count: usize, value: i32, work: u64, max_work: u64) -> Sought
+fn seek_number(table: &[i32], count: usize, value: i32, work: u64, max_work: u64) -> Sought
     requires { ⌜ count ≤ length (now table) ⌝ }
     ensures { λ r. ⌜ Seeks (seekNumber (now (table .entry)) count value) work «max_work» r ⌝ }
 {
@@ -54,7 +54,7 @@ pub fn seek_number(table: &[i32], count: usize, value: i32, work: u64, max_work:
 }
 
 // The cells from `at` up to `count` go one place up, and the value stands at `at`.
-pub fn insert_number(table: &mut [i32], at: usize, count: usize, value: i32)
+fn insert_number(table: &mut [i32], at: usize, count: usize, value: i32)
     requires { ⌜ (at ≤ count) × (count < length (now table)) ⌝ }
     ensures { λ _. ⌜ now (table .exit) ≡ inserted (now (table .entry)) at count value ⌝ }
 {
