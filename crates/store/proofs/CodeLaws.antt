@@ -7,6 +7,7 @@ use mathlib.Core.Bool.{Bool, true, false}
 use mathlib.Core.List.{List}
 use borrow.Author.Tests.{leb-true, leb-false, ltb-true, lt-ltb, le-ltb, le-leb, lt-leb, eq-eqb, ne-eqb}
 use lib.Dec.{leb, ltb}
+use lib.IntN.{ℤ}
 use lib.ListN.{length, set}
 use Rattle.limits.specs.declared.Limits.{Limits}
 use Rattle.limits.specs.declared.Stop.{Stop}
@@ -20,6 +21,7 @@ use Rattle.limits.specs.Records.{fresh}
 use Rattle.limits.specs.Metered.{Run, going, stopped, Metered, pure, after, _>>=_, _>>_, mapped, through}
 use Rattle.limits.specs.Budget.{ran, work, predicates, positions}
 use Rattle.limits.proofs.Monad.{then-on, then-stop}
+use Rattle.thresholds.specs.Thresholds.{Entry, entry}
 use Rattle.integers.proofs.Tests.{and-left, and-right}
 use Rattle.lattice.specs.Value.{Value}
 use Rattle.lattice.specs.Lattice.{bottom}
@@ -29,9 +31,9 @@ use Rattle.store.specs.declared.Phase.the-variants.{Open, Absent}
 use Rattle.store.specs.declared.Store.{Store}
 use Rattle.store.specs.declared.Done.{Done}
 use Rattle.store.specs.declared.Done.the-variants.{Ok, Refused}
-use Rattle.store.specs.Store.{admits, withBudget, withContext, withPredicate, empty, freshOf}
-use Rattle.store.specs.Calls.{charged, declared, bottoms, roomFor, tables, inHeader, predicateCall, contextCall, workCall, firstOf, arityOf, argumentCall}
-use Rattle.store.specs.Answers.{done}
+use Rattle.store.specs.Store.{admits, withBudget, withContext, withThresholds, withPredicate, empty, freshOf}
+use Rattle.store.specs.Calls.{charged, marks, entering, declared, bottoms, roomFor, tables, inHeader, predicateCall, contextCall, workCall, firstOf, arityOf, argumentCall}
+use Rattle.store.specs.Answers.{done, onMarks}
 
 -- ---- a fresh store
 
@@ -71,6 +73,17 @@ module _ (arity : ℕ) (b : Budget) {x : Billed} (h : ran x ≡ predicates 1 b) 
       pub declare-all : {b₃ : Budget} → z ≡ Paid b₃ → ran (Paid b₃) ≡ declared arity b
       unfolding declared through mapped _>>_ _>>=_ after
       declare-all r = rw (← h, p, ← i, q, ← j, r)
+
+-- ---- thresholds in a call
+
+module _ (m : Metered Stop Entry (Unit {0})) (s : Store) (t : List ℤ) {t′ : List ℤ} {b : Budget} {n : ℕ} {u w : Store} (q : u ≡ withBudget b s) (r : w ≡ withThresholds n u) where
+  pub entering-done : going tt (entry b n t′) ≡ m (entry (s .budget) (s .counts .thresholds) t) → onMarks (Ok w) t′ ≡ entering m (marks s t)
+  unfolding through mapped
+  entering-done h = rw (r, q, ← h)
+
+  pub entering-stopped : {e : Stop} → stopped e (entry b n t′) ≡ m (entry (s .budget) (s .counts .thresholds) t) → onMarks (Refused (Limit e) w) t′ ≡ entering m (marks s t)
+  unfolding through mapped
+  entering-stopped h = rw (r, q, ← h)
 
 -- ---- seeds
 

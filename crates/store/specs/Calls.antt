@@ -3,6 +3,7 @@ use Prim.Native.Nat.{ℕ, zero, suc, _+_, _*_}
 use mathlib.Core.Bool.{Bool, cond, _&&_}
 use mathlib.Core.List.{List, [], _∷_}
 use lib.Dec.{leb, ltb, eqb}
+use lib.IntN.{ℤ}
 use lib.ListN.{length, getD}
 use lib.Seq.{sets}
 use Rattle.limits.specs.declared.Stop.{Stop}
@@ -12,11 +13,12 @@ use Rattle.limits.specs.declared.Refusal.the-variants.{Closed, Shape, Full, Lim
 use Rattle.limits.specs.Refusal.{Told, told}
 use Rattle.limits.specs.Metered.{Metered, going, stopped, pure, _>>_, whole, zoom, stopping}
 use Rattle.limits.specs.Budget.{work, predicates, positions}
+use Rattle.thresholds.specs.Thresholds.{Entry, entry}
 use Rattle.lattice.specs.Lattice.{bottom}
 use Rattle.rows.specs.Row.{row, put}
 use Rattle.store.specs.declared.Context.the-variants.{Some}
 use Rattle.store.specs.declared.Store.{Store}
-use Rattle.store.specs.Store.{admits, withBudget, withContext, withPredicate}
+use Rattle.store.specs.Store.{admits, withBudget, withContext, withPredicate, withThresholds}
 
 -- what is refused unless a test holds
 abbrev pub unless : {S A : Type 0} → (S → Bool) → Refusal → Metered Told S A → Metered Told S A
@@ -28,6 +30,22 @@ open? s = admits (s .phase)
 -- a charge in a call
 abbrev pub charged : {A : Type 0} → Metered Stop Budget A → Metered Told Store A
 charged m = stopping (λ e. told (Limit e)) (zoom (λ s. s .budget) withBudget m)
+
+-- ---- thresholds, which several calls enter numbers into
+
+pub record Marks : Type 0 where
+  pub header : Store
+  pub table : List ℤ
+
+abbrev pub marks : Store → List ℤ → Marks
+marks s t = record { header = s; table = t }
+
+abbrev pub entering : {A : Type 0} → Metered Stop Entry A → Metered Told Marks A
+entering m =
+    stopping (λ e. told (Limit e))
+    (zoom (λ t. entry (t .header .budget) (t .header .counts .thresholds) (t .table)) (λ e t. marks (withThresholds (e .count) (withBudget (e .budget) (t .header))) (e .table)) m)
+
+-- ---- calls without tables
 
 unfoldable pub contextCall : ℕ → Metered Told Store (Unit {0})
 contextCall c = unless open? Closed (λ s. going tt (withContext (Some c) s))

@@ -28,23 +28,116 @@ withBudget b s = record { budget = b; counts = s .counts; context = s .context; 
 abbrev pub withContext : Context → Store → Store
 withContext c s = record { budget = s .budget; counts = s .counts; context = c; phase = s .phase }
 
+abbrev pub withCounts : Counts → Store → Store
+withCounts n s = record { budget = s .budget; counts = n; context = s .context; phase = s .phase }
+
 -- one predicate more, and as many positions as its arity
 abbrev pub withPredicate : ℕ → Store → Store
-withPredicate arity s = record {
-  budget = s .budget;
-  counts = record {
-    predicates = s .counts .predicates + 1;
-    positions = s .counts .positions + arity;
-    constants = s .counts .constants;
-    keys = s .counts .keys;
-    expressions = s .counts .expressions;
-    rules = s .counts .rules;
-    thresholds = s .counts .thresholds;
-    provenance = s .counts .provenance;
-  };
-  context = s .context;
-  phase = s .phase;
-}
+withPredicate arity s =
+    withCounts
+    record {
+      predicates = s .counts .predicates + 1;
+      positions = s .counts .positions + arity;
+      constants = s .counts .constants;
+      keys = s .counts .keys;
+      expressions = s .counts .expressions;
+      rules = s .counts .rules;
+      thresholds = s .counts .thresholds;
+      provenance = s .counts .provenance;
+    }
+    s
+
+-- ---- one table's count is n, all else is as it was
+
+abbrev pub withConstants : ℕ → Store → Store
+withConstants n s =
+    withCounts
+    record {
+      predicates = s .counts .predicates;
+      positions = s .counts .positions;
+      constants = n;
+      keys = s .counts .keys;
+      expressions = s .counts .expressions;
+      rules = s .counts .rules;
+      thresholds = s .counts .thresholds;
+      provenance = s .counts .provenance;
+    }
+    s
+
+abbrev pub withKeys : ℕ → Store → Store
+withKeys n s =
+    withCounts
+    record {
+      predicates = s .counts .predicates;
+      positions = s .counts .positions;
+      constants = s .counts .constants;
+      keys = n;
+      expressions = s .counts .expressions;
+      rules = s .counts .rules;
+      thresholds = s .counts .thresholds;
+      provenance = s .counts .provenance;
+    }
+    s
+
+abbrev pub withExpressions : ℕ → Store → Store
+withExpressions n s =
+    withCounts
+    record {
+      predicates = s .counts .predicates;
+      positions = s .counts .positions;
+      constants = s .counts .constants;
+      keys = s .counts .keys;
+      expressions = n;
+      rules = s .counts .rules;
+      thresholds = s .counts .thresholds;
+      provenance = s .counts .provenance;
+    }
+    s
+
+abbrev pub withRules : ℕ → Store → Store
+withRules n s =
+    withCounts
+    record {
+      predicates = s .counts .predicates;
+      positions = s .counts .positions;
+      constants = s .counts .constants;
+      keys = s .counts .keys;
+      expressions = s .counts .expressions;
+      rules = n;
+      thresholds = s .counts .thresholds;
+      provenance = s .counts .provenance;
+    }
+    s
+
+abbrev pub withThresholds : ℕ → Store → Store
+withThresholds n s =
+    withCounts
+    record {
+      predicates = s .counts .predicates;
+      positions = s .counts .positions;
+      constants = s .counts .constants;
+      keys = s .counts .keys;
+      expressions = s .counts .expressions;
+      rules = s .counts .rules;
+      thresholds = n;
+      provenance = s .counts .provenance;
+    }
+    s
+
+abbrev pub withProvenance : ℕ → Store → Store
+withProvenance n s =
+    withCounts
+    record {
+      predicates = s .counts .predicates;
+      positions = s .counts .positions;
+      constants = s .counts .constants;
+      keys = s .counts .keys;
+      expressions = s .counts .expressions;
+      rules = s .counts .rules;
+      thresholds = s .counts .thresholds;
+      provenance = n;
+    }
+    s
 
 abbrev pub nothing : Counts
 nothing = record { predicates = 0; positions = 0; constants = 0; keys = 0; expressions = 0; rules = 0; thresholds = 0; provenance = 0 }

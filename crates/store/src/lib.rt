@@ -7,12 +7,15 @@ use limits::Limits;
 use limits::Refusal;
 use limits::Resource;
 use limits::Stop;
+use thresholds::Entered;
 ghost use mathlib.Core.Path.{_≡_};
 ghost use Prim.Native.Nat.{_+_, _≤_};
+ghost use lib.ListN.{length};
 ghost use Rattle.limits.specs.Budget.{ran, charge};
-ghost use Rattle.store.specs.Store.{freshOf, admits, withBudget, withPredicate};
-ghost use Rattle.store.specs.Calls.{charged, contextCall, workCall, declared, bottoms, roomFor, tables, predicateCall, argumentCall};
-ghost use Rattle.store.specs.Answers.{done, answered, onTables};
+ghost use Rattle.store.specs.Store.{freshOf, admits, withBudget, withCounts, withThresholds, withPredicate};
+ghost use Rattle.store.specs.Calls.{charged, marks, entering, contextCall, workCall, declared, bottoms, roomFor, tables, predicateCall, argumentCall};
+ghost use Rattle.store.specs.Answers.{done, answered, onMarks, onTables};
+ghost use Rattle.thresholds.specs.Thresholds.{around};
 
 // The caller's context, if one is set.
 pub enum Context {
@@ -171,7 +174,7 @@ impl Store {
     }
 
     // The same header with another budget.
-    fn with_budget(self, budget: Budget) -> Store
+    pub fn with_budget(self, budget: Budget) -> Store
         ensures { λ r. ⌜ r ≡ withBudget budget self ⌝ }
     {
         let counts = self.counts;
@@ -185,8 +188,23 @@ impl Store {
         }
     }
 
+    // The same header with other counts of rows.
+    pub fn with_counts(self, counts: Counts) -> Store
+        ensures { λ r. ⌜ r ≡ withCounts counts self ⌝ }
+    {
+        let budget = self.budget;
+        let context = self.context;
+        let phase = self.phase;
+        Store {
+            budget,
+            counts,
+            context,
+            phase,
+        }
+    }
+
     // One charge of a call.
-    fn charge(self, resource: Resource, amount: u64) -> Done
+    pub fn charge(self, resource: Resource, amount: u64) -> Done
         ensures { λ r. ⌜ done r ≡ charged (charge resource amount) self ⌝ }
     {
         let budget = self.budget;
@@ -194,6 +212,34 @@ impl Store {
             Billed::Paid(paid) => Done::Ok(self.with_budget(paid)),
             Billed::Stopped(stop, kept) => {
                 Done::Refused(Refusal::Limit(stop), self.with_budget(kept))
+            }
+        }
+    }
+
+    // The same header with this many thresholds.
+    fn with_thresholds(self, count: usize) -> Store
+        ensures { λ r. ⌜ r ≡ withThresholds count self ⌝ }
+    {
+        let mut counts = self.counts;
+        counts.thresholds = count;
+        self.with_counts(counts)
+    }
+
+    // A number and its neighbours become thresholds; the call has tested that there is room for three more.
+    pub fn enter_around(self, value: i32, table: &mut [i32]) -> Done
+        requires { ⌜ self .counts .thresholds + 3 ≤ length (now table) ⌝ }
+        ensures { λ r. ⌜ onMarks r (now (table .exit)) ≡ entering (around value) (marks self (now (table .entry))) ⌝ }
+    {
+        let budget = self.budget;
+        let counts = self.counts;
+        match thresholds::enter_around(table, counts.thresholds, value, budget) {
+            Entered::Done(paid, count) => {
+                let store = self.with_budget(paid);
+                Done::Ok(store.with_thresholds(count))
+            }
+            Entered::Stopped(stop, kept, count) => {
+                let store = self.with_budget(kept);
+                Done::Refused(Refusal::Limit(stop), store.with_thresholds(count))
             }
         }
     }
