@@ -101,6 +101,11 @@ module _ {x : Charged} (w mw e me amount : ℕ) where
     unfolding inner.retain
     retain-stopped p = rw (stays ValueEntries e amount me (sym h ∙ p), ← h, p)
 
+-- ---- one count
+
+pub with-is : (r : Resource) (n : ℕ) (b : Budget) {s : Statistics} → s ≡ withCount r n (b .statistics) → withStatistics s b ≡ withStatistics (withCount r n (b .statistics)) b
+with-is r n b e = rw e
+
 -- ---- while entries are held
 
 module _ {A : Type 0} (n : ℕ) (c : Metered Stop Meter A) (m : Meter) where

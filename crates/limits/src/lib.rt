@@ -3,7 +3,7 @@
 ghost use mathlib.Core.Path.{_≡_};
 ghost use Prim.Native.Nat.{_-_};
 ghost use Rattle.limits.specs.Charge.{chargeOf};
-ghost use Rattle.limits.specs.Records.{countOf, limitOf, withCount, fresh};
+ghost use Rattle.limits.specs.Records.{countOf, limitOf, withCount, withStatistics, fresh};
 ghost use Rattle.limits.specs.Refusal.{resourceNumber, told};
 ghost use Rattle.limits.specs.Budget.{ran, charge, released, widenedOnce};
 
@@ -248,6 +248,18 @@ impl Budget {
                 bytes: 0,
                 widened: 0,
             },
+        }
+    }
+
+    // The same budget but for one resource's count.
+    pub fn with(self, resource: Resource, count: u64) -> Budget
+        ensures { λ r. ⌜ r ≡ withStatistics (withCount resource count (self .statistics)) self ⌝ }
+    {
+        let limits = self.limits;
+        let statistics = self.statistics;
+        Budget {
+            limits,
+            statistics: statistics.with(resource, count),
         }
     }
 

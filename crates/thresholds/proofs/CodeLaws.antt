@@ -87,9 +87,6 @@ module _ (z : ℤ) (f : SFits w32 z) where
 
 -- ---- what a new threshold costs
 
-pub with-is : (b : Budget) (w : ℕ) {s : Statistics} → s ≡ withCount Work w (b .statistics) → withStatistics s b ≡ withStatistics (withCount Work w (b .statistics)) b
-with-is b w e = rw e
-
 module _ (cells : ℕ) (b : Budget) {x : Billed} (h : ran x ≡ work cells b) where
   pub cost-stopped : {s : Stop} {b′ : Budget} → x ≡ bill.Stopped s b′ → ran (bill.Stopped s b′) ≡ cost cells b
   unfolding cost _>>_ _>>=_ after

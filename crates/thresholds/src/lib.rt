@@ -8,8 +8,6 @@ use search::Sought;
 ghost use mathlib.Core.Path.{_≡_};
 ghost use Prim.Native.Nat.{_+_, _≤_, _<_};
 ghost use lib.ListN.{length};
-ghost use Rattle.limits.specs.declared.Resource.the-variants.{Work};
-ghost use Rattle.limits.specs.Records.{withCount, withStatistics};
 ghost use Rattle.limits.specs.Budget.{ran};
 ghost use Rattle.integers.specs.Lists.{inserted};
 ghost use Rattle.search.specs.Answers.{Seeks};
@@ -69,18 +67,6 @@ fn insert_number(table: &mut [i32], at: usize, count: usize, value: i32)
     table[i] = carry;
 }
 
-// The same budget with this much work.
-fn with_work(budget: Budget, work: u64) -> Budget
-    ensures { λ r. ⌜ r ≡ withStatistics (withCount Work work (budget .statistics)) budget ⌝ }
-{
-    let limits = budget.limits;
-    let statistics = budget.statistics;
-    Budget {
-        limits,
-        statistics: statistics.with(Resource::Work, work),
-    }
-}
-
 // What a new threshold costs: the cells that move and its own, and a link.
 fn pay(budget: Budget, cells: u64) -> Billed
     ensures { λ r. ⌜ ran r ≡ cost cells budget ⌝ }
@@ -99,12 +85,12 @@ pub fn enter(table: &mut [i32], count: usize, value: i32, budget: Budget) -> Ent
     let limits = budget.limits;
     let statistics = budget.statistics;
     match seek_number(table, count, value, statistics.work, limits.work) {
-        Sought::Found(_, work) => Entered::Done(with_work(budget, work), count),
-        Sought::Stopped(stop, work) => Entered::Stopped(stop, with_work(budget, work), count),
+        Sought::Found(_, work) => Entered::Done(budget.with(Resource::Work, work), count),
+        Sought::Stopped(stop, work) => Entered::Stopped(stop, budget.with(Resource::Work, work), count),
         Sought::Absent(low, work) => {
             let more = count + 1;
             let cells = (count - low + 1) as u64;
-            match pay(with_work(budget, work), cells) {
+            match pay(budget.with(Resource::Work, work), cells) {
                 Billed::Stopped(stop, b) => Entered::Stopped(stop, b, count),
                 Billed::Paid(b) => {
                     insert_number(table, low, count, value);

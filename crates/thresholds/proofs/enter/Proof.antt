@@ -12,14 +12,14 @@ seek-number-requires c κs = search needs
 enum-known-work : tie.Need-enum-known-work
 enum-known-work c = search needs
 
-with-work-requires : tie.Need-with-work-requires
-with-work-requires c κs = search needs
+with-requires : tie.Need-with-requires
+with-requires c κs = search needs
 
 enum-known-stop : tie.Need-enum-known-stop
 enum-known-stop c = search needs
 
-with-work-requires-2 : tie.Need-with-work-requires-2
-with-work-requires-2 c κs = search needs
+with-requires-2 : tie.Need-with-requires-2
+with-requires-2 c κs = search needs
 
 enum-known-low : tie.Need-enum-known-low
 enum-known-low c = search needs
@@ -32,8 +32,8 @@ sub-cells c =
 add-cells : tie.Need-add-cells
 add-cells c = search needs
 
-with-work-requires-3 : tie.Need-with-work-requires-3
-with-work-requires-3 c κs = search needs
+with-requires-3 : tie.Need-with-requires-3
+with-requires-3 c κs = search needs
 
 pay-requires : tie.Need-pay-requires
 pay-requires c κs = search needs
@@ -58,7 +58,7 @@ same-length c = search needs
 returns : tie.Need-returns
 returns c =
     let a = c .before .before .before .before .before .before .before .before in
-    enter-found (a .args .value) (a .args .budget) (a .args .count) (now (a .args .table)) (rw (toZ-ofZ (a .fits .value)) at (c .before .before .before .before .seek-number .ensures)) (c .before .before .work .given .1) (c .with-work .ensures)
+    enter-found (a .args .value) (a .args .budget) (a .args .count) (now (a .args .table)) (rw (toZ-ofZ (a .fits .value)) at (c .before .before .before .before .seek-number .ensures)) (c .before .before .work .given .1) (c .with .ensures)
 
 same-length-2 : tie.Need-same-length-2
 same-length-2 c = search needs
@@ -66,7 +66,7 @@ same-length-2 c = search needs
 returns-2 : tie.Need-returns-2
 returns-2 c =
     let a = c .before .before .before .before .before .before .before .before in
-    enter-halted (a .args .value) (a .args .budget) (a .args .count) (now (a .args .table)) (rw (toZ-ofZ (a .fits .value)) at (c .before .before .before .before .seek-number .ensures)) (c .before .before .stop .given .1) (c .with-work2 .ensures)
+    enter-halted (a .args .value) (a .args .budget) (a .args .count) (now (a .args .table)) (rw (toZ-ofZ (a .fits .value)) at (c .before .before .before .before .seek-number .ensures)) (c .before .before .stop .given .1) (c .with2 .ensures)
 
 same-length-3 : tie.Need-same-length-3
 same-length-3 c = search needs
@@ -74,7 +74,7 @@ same-length-3 c = search needs
 returns-3 : tie.Need-returns-3
 returns-3 c =
     let a = c .before .before .before .before .before .before .before .before .before .before .before .before in
-    enter-unpaid (a .args .value) (a .args .budget) (a .args .count) (now (a .args .table)) (rw (toZ-ofZ (a .fits .value)) at (c .before .before .before .before .before .before .before .before .seek-number .ensures)) (c .before .before .before .before .before .before .low .given .1) (c .before .before .before .before .with-work3 .ensures) (c .before .before .before .pay .ensures) (c .before .stop2 .given .1)
+    enter-unpaid (a .args .value) (a .args .budget) (a .args .count) (now (a .args .table)) (rw (toZ-ofZ (a .fits .value)) at (c .before .before .before .before .before .before .before .before .seek-number .ensures)) (c .before .before .before .before .before .before .low .given .1) (c .before .before .before .before .with3 .ensures) (c .before .before .before .pay .ensures) (c .before .stop2 .given .1)
 
 same-length-4 : tie.Need-same-length-4
 same-length-4 c = search needs
@@ -82,7 +82,7 @@ same-length-4 c = search needs
 returns-4 : tie.Need-returns-4
 returns-4 c =
     let a = c .before .before .before .before .before .before .before .before .before .before .before .before .before .before .before in
-    enter-new (a .args .value) (a .args .budget) (a .args .count) (now (a .args .table)) (rw (toZ-ofZ (a .fits .value)) at (c .before .before .before .before .before .before .before .before .before .before .before .seek-number .ensures)) (c .before .before .before .before .before .before .before .before .before .low .given .1) (c .before .before .before .before .before .before .before .with-work3 .ensures) (c .before .before .before .before .before .before .pay .ensures) (c .before .before .before .before .b .given .1) (rw (toZ-ofZ (a .fits .value)) at (c .before .insert-number .ensures))
+    enter-new (a .args .value) (a .args .budget) (a .args .count) (now (a .args .table)) (rw (toZ-ofZ (a .fits .value)) at (c .before .before .before .before .before .before .before .before .before .before .before .seek-number .ensures)) (c .before .before .before .before .before .before .before .before .before .low .given .1) (c .before .before .before .before .before .before .before .with3 .ensures) (c .before .before .before .before .before .before .pay .ensures) (c .before .before .before .before .b .given .1) (rw (toZ-ofZ (a .fits .value)) at (c .before .insert-number .ensures))
 
 pub enter-spec : {M : Type 1} → statement M
 enter-spec =
@@ -90,14 +90,14 @@ enter-spec =
     (tie.spec
     seek-number-requires
     enum-known-work
-    with-work-requires
+    with-requires
     enum-known-stop
-    with-work-requires-2
+    with-requires-2
     enum-known-low
     add-more
     sub-cells
     add-cells
-    with-work-requires-3
+    with-requires-3
     pay-requires
     enum-known-stop-2
     enum-known-b
