@@ -91,6 +91,10 @@ keep k t = (paying (metered (seekKey (t .names) (t .constants) (t .order) (t .he
 unfoldable pub abandon : Metered Told KeyTables ℕ
 abandon = paying (links 1) >> addLarge
 
+-- once it is classified, a key is kept or not
+unfoldable pub retain : Key → Metered Told KeyTables ℕ
+retain k t = cond (retains (t .header .budget .limits) k) (keep k t) (abandon t)
+
 -- ---- the call
 
 pub record Tables : Type 0 where
@@ -120,14 +124,10 @@ sizes names constants order thresholds = eqb names 65536 && (eqb constants 2048 
 abbrev pub spacious : Counts → Bool
 spacious n = ltb (n .constants) 1024 && (ltb (n .keys) 1024 && leb (n .thresholds) 4088)
 
--- the key is kept or not, once it is classified
-unfoldable pub retain : Key → Metered Told Tables ℕ
-retain k t = cond (retains (t .header .budget .limits) k) (inKeys (keep k) t) (inKeys abandon t)
-
 unfoldable pub constantCall : Key → Metered Told Tables ℕ
 constantCall k =
     unless (λ t. sizes (length (t .names)) (length (t .constants)) (length (t .order)) (length (t .thresholds))) Shape
     (unless (λ t. leb (length (bytesOf k)) 64) Shape
     (unless (λ t. open? (t .header)) Closed
     (unless (λ t. spacious (t .header .counts)) Full
-    (inHeader (charged (work 1)) >> inMarks (classify k) >> retain k))))
+    (inHeader (charged (work 1)) >> inMarks (classify k) >> inKeys (retain k)))))

@@ -11,6 +11,7 @@ use store::Done;
 use store::Store;
 ghost use mathlib.Core.Path.{_≡_};
 ghost use Prim.Native.Nat.{_+_, _≤_};
+ghost use lib.Dec.{leb};
 ghost use lib.ListN.{length};
 ghost use Rattle.limits.specs.Budget.{ran};
 ghost use Rattle.store.specs.Store.{withConstants, withKeys};
@@ -18,7 +19,7 @@ ghost use Rattle.store.specs.Calls.{marks};
 ghost use Rattle.store.specs.Answers.{onMarks};
 ghost use Rattle.keys.specs.Key.{number, name, keyOf, putCells, putName};
 ghost use Rattle.constants.specs.Constant.{bytesOf, retains, kindOf, payloadOf, classify, cost, sizes, spacious, tables, constantCall};
-ghost use Rattle.constants.specs.Answers.{Keeps, Abandons, onTables};
+ghost use Rattle.constants.specs.Answers.{Adds, Keeps, Abandons, Retains, onTables};
 
 // The constants that the tables have rows for.
 pub const CONSTANTS: usize = 1024;
@@ -134,4 +135,181 @@ fn with_key(store: Store) -> Store
     let mut counts = store.counts;
     counts.keys = counts.keys + 1;
     store.with_counts(counts)
+}
+
+// A key that is new: its cells, its bytes, and its place in the key order.
+fn add(
+    store: Store,
+    low: usize,
+    named: bool,
+    number: i32,
+    text: &[u8],
+    names: &mut [u8],
+    constants: &mut [u32],
+    order: &mut [u32],
+) -> Store
+    requires { ⌜ (store .counts .constants ≤ 1024) × ((store .counts .keys ≤ 1024) × (length (bytesOf (keyOf named number (now text))) ≤ 64)) ⌝ }
+    ensures { λ r. ⌜ Adds (keyOf named number (now (text .entry))) low store (now (names .entry)) (now (constants .entry)) (now (order .entry)) r (now (names .exit)) (now (constants .exit)) (now (order .exit)) ⌝ }
+{
+    let counts = store.counts;
+    let id = counts.constants;
+    put_key(constants, id, named, number, text);
+    put_bytes(names, id, named, number, text);
+    keys::insert_cell(order, low, counts.keys, id as u32);
+    with_key(with_constant(store))
+}
+
+// A retained key: its old id, or a new constant in its place of the key order.
+fn keep(
+    store: Store,
+    named: bool,
+    number: i32,
+    text: &[u8],
+    names: &mut [u8],
+    constants: &mut [u32],
+    order: &mut [u32],
+) -> Answer
+    requires { ⌜ (store .counts .constants ≤ 1024) × ((store .counts .keys ≤ 1024) × (length (bytesOf (keyOf named number (now text))) ≤ 64)) ⌝ }
+    ensures { λ r. ⌜ Keeps (keyOf named number (now (text .entry))) store (now (names .entry)) (now (constants .entry)) (now (order .entry)) r (now (names .exit)) (now (constants .exit)) (now (order .exit)) ⌝ }
+{
+    let budget = store.budget;
+    let limits = budget.limits;
+    let statistics = budget.statistics;
+    let counts = store.counts;
+    let id = counts.constants;
+    match keys::seek_key(
+        names,
+        constants,
+        order,
+        counts.keys,
+        named,
+        number,
+        text,
+        statistics.work,
+        limits.work,
+    ) {
+        Sought::Stopped(stop, work) => {
+            let kept = budget.with(Resource::Work, work);
+            Answer::Refused(Refusal::Limit(stop), store.with_budget(kept))
+        }
+        Sought::Found(i, work) => {
+            let paid = budget.with(Resource::Work, work);
+            Answer::Id(
+                cells::cell_at(order, i) as usize,
+                store.with_budget(paid),
+            )
+        }
+        Sought::Absent(low, work) => {
+            let moved = (counts.keys - low) as u64;
+            match pay(budget.with(Resource::Work, work), moved) {
+                Billed::Stopped(stop, kept) => {
+                    Answer::Refused(Refusal::Limit(stop), store.with_budget(kept))
+                }
+                Billed::Paid(paid) => {
+                    let ready = store.with_budget(paid);
+                    Answer::Id(id, add(ready, low, named, number, text, names, constants, order))
+                }
+            }
+        }
+    }
+}
+
+// A name that is not retained: always a new constant.
+fn abandon(store: Store, constants: &mut [u32]) -> Answer
+    requires { ⌜ store .counts .constants ≤ 1024 ⌝ }
+    ensures { λ r. ⌜ Abandons store (now (constants .entry)) r (now (constants .exit)) ⌝ }
+{
+    let counts = store.counts;
+    let id = counts.constants;
+    match store.charge(Resource::Links, 1) {
+        Done::Refused(refusal, kept) => Answer::Refused(refusal, kept),
+        Done::Ok(paid) => {
+            keys::put_cells(constants, id, 0, 0);
+            Answer::Id(id, with_constant(paid))
+        }
+    }
+}
+
+// Once it is classified, a key is kept or not.
+fn retain(
+    store: Store,
+    named: bool,
+    number: i32,
+    text: &[u8],
+    names: &mut [u8],
+    constants: &mut [u32],
+    order: &mut [u32],
+) -> Answer
+    requires { ⌜ (store .counts .constants ≤ 1024) × ((store .counts .keys ≤ 1024) × (length (bytesOf (keyOf named number (now text))) ≤ 64)) ⌝ }
+    ensures { λ r. ⌜ Retains (keyOf named number (now (text .entry))) store (now (names .entry)) (now (constants .entry)) (now (order .entry)) r (now (names .exit)) (now (constants .exit)) (now (order .exit)) ⌝ }
+{
+    if retained(store, named, number, text) {
+        return keep(store, named, number, text, names, constants, order);
+    }
+    abandon(store, constants)
+}
+
+// A key: its id.
+fn constant(
+    store: Store,
+    named: bool,
+    number: i32,
+    text: &[u8],
+    names: &mut [u8],
+    constants: &mut [u32],
+    order: &mut [u32],
+    thresholds: &mut [i32],
+) -> Answer
+    ensures { λ r. ⌜ onTables r (now (names .exit)) (now (constants .exit)) (now (order .exit)) (now (thresholds .exit)) ≡ constantCall (keyOf named number (now (text .entry))) (tables store (now (names .entry)) (now (constants .entry)) (now (order .entry)) (now (thresholds .entry))) ⌝ }
+{
+    let phase = store.phase;
+    let counts = store.counts;
+    if !sized(names.len(), constants.len(), order.len(), thresholds.len()) {
+        return Answer::Refused(Refusal::Shape, store);
+    }
+    if !short(named, number, text) {
+        return Answer::Refused(Refusal::Shape, store);
+    }
+    if !phase.admits() {
+        return Answer::Refused(Refusal::Closed, store);
+    }
+    if !room(counts) {
+        return Answer::Refused(Refusal::Full, store);
+    }
+    match store.charge(Resource::Work, 1) {
+        Done::Refused(refusal, kept) => Answer::Refused(refusal, kept),
+        Done::Ok(paid) => match classified(paid, named, number, text, thresholds) {
+            Done::Refused(refusal, kept) => Answer::Refused(refusal, kept),
+            Done::Ok(read) => retain(read, named, number, text, names, constants, order),
+        },
+    }
+}
+
+// The id of a number.
+pub fn constant_number(
+    store: Store,
+    value: i32,
+    names: &mut [u8],
+    constants: &mut [u32],
+    order: &mut [u32],
+    thresholds: &mut [i32],
+) -> Answer
+    ensures { λ r. ⌜ onTables r (now (names .exit)) (now (constants .exit)) (now (order .exit)) (now (thresholds .exit)) ≡ constantCall (number value) (tables store (now (names .entry)) (now (constants .entry)) (now (order .entry)) (now (thresholds .entry))) ⌝ }
+{
+    let none = [0u8; 1];
+    constant(store, false, value, &none, names, constants, order, thresholds)
+}
+
+// The id of a name.
+pub fn constant_name(
+    store: Store,
+    text: &[u8],
+    names: &mut [u8],
+    constants: &mut [u32],
+    order: &mut [u32],
+    thresholds: &mut [i32],
+) -> Answer
+    ensures { λ r. ⌜ onTables r (now (names .exit)) (now (constants .exit)) (now (order .exit)) (now (thresholds .exit)) ≡ constantCall (name (now (text .entry))) (tables store (now (names .entry)) (now (constants .entry)) (now (order .entry)) (now (thresholds .entry))) ⌝ }
+{
+    constant(store, true, 0, text, names, constants, order, thresholds)
 }
