@@ -73,7 +73,7 @@ impl BinaryOp {
     }
 }
 
-fn node(kind: u64, operator: u64, left: u64, right: u64) -> Node
+fn node_of(kind: u64, operator: u64, left: u64, right: u64) -> Node
     ensures { λ r. ⌜ r ≡ node kind operator left right ⌝ }
 {
     Node {
@@ -98,13 +98,13 @@ impl Expression {
         ensures { λ r. ⌜ r ≡ nodeOf self ⌝ }
     {
         match self {
-            Expression::Constant(id) => node(0, 0, id, 0),
-            Expression::Slot(slot) => node(1, 0, slot, 0),
-            Expression::Unary(op, value) => node(2, op.number(), value, 0),
-            Expression::Absolute(value) => node(3, 0, value, 0),
-            Expression::Binary(op, left, right) => node(4, op.number(), left, right),
+            Expression::Constant(id) => node_of(0, 0, id, 0),
+            Expression::Slot(slot) => node_of(1, 0, slot, 0),
+            Expression::Unary(op, value) => node_of(2, op.number(), value, 0),
+            Expression::Absolute(value) => node_of(3, 0, value, 0),
+            Expression::Binary(op, left, right) => node_of(4, op.number(), left, right),
             Expression::Unknown(integer, reason) => {
-                node(5, mark(integer), reason.number() as u64, 0)
+                node_of(5, mark(integer), reason.number() as u64, 0)
             }
         }
     }
@@ -162,7 +162,7 @@ pub fn node_at(cells: &[u64], id: usize) -> Node
     ensures { λ r. ⌜ r ≡ nodeAt (now (cells .entry)) id ⌝ }
 {
     let at = start(cells.len(), id);
-    node(
+    node_of(
         word_at(cells, at),
         word_at(cells, at + 1),
         word_at(cells, at + 2),
