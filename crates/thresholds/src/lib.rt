@@ -86,7 +86,11 @@ pub fn enter(table: &mut [i32], count: usize, value: i32, budget: Budget) -> Ent
     let statistics = budget.statistics;
     match seek_number(table, count, value, statistics.work, limits.work) {
         Sought::Found(_, work) => Entered::Done(budget.with(Resource::Work, work), count),
-        Sought::Stopped(stop, work) => Entered::Stopped(stop, budget.with(Resource::Work, work), count),
+        Sought::Stopped(stop, work) => Entered::Stopped(
+            stop,
+            budget.with(Resource::Work, work),
+            count,
+        ),
         Sought::Absent(low, work) => {
             let more = count + 1;
             let cells = (count - low + 1) as u64;

@@ -1,0 +1,2 @@
+pub mod Provenance
+pub mod Answers

@@ -1,0 +1,2 @@
+pub mod Seed
+pub mod Answers
