@@ -1,0 +1,2 @@
+pub mod Producer
+pub mod Answers
