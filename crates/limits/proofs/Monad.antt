@@ -67,6 +67,16 @@ module _ {E S A B : Type 0} (c : Metered E S A) (s : S) where
   unfolding _>>_
   then-on d h k = bind-on (λ _. d) h k
 
+-- and on a part of the state: for `onStop`, `whole`, `zoom` and `stopping` alike
+module _ {E F S T A : Type 0} (get : S → T) (kept left : S → T → S) (tell : E → F) (m : Metered E T A) (s : S) where
+  pub through-on : {a : A} {t : T} → going a t ≡ m (get s) → going a (kept s t) ≡ through get kept left tell m s
+  unfolding through mapped
+  through-on h = rw (← h)
+
+  pub through-stop : {e : E} {t : T} → stopped e t ≡ m (get s) → stopped (tell e) (left s t) ≡ through get kept left tell m s
+  unfolding through mapped
+  through-stop h = rw (← h)
+
 module _ {E S A : Type 0} where
   pub pure-is : (a : A) (s : S) → _≡_ {A = Run E S A} (going a s) (pure a s)
   unfolding pure

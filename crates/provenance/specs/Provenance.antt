@@ -1,6 +1,6 @@
 -- `Input::provenance`: which contexts produced an argument, as records of argument and context in the order recorded.
 use Prim.Native.Nat.{ℕ, _+_, _*_, _≤_}
-use mathlib.Core.Bool.{Bool, true, cond}
+use mathlib.Core.Bool.{Bool, true}
 use mathlib.Core.List.{List, [], _∷_}
 use lib.Dec.{leb, ltb}
 use lib.Seq.{sets}
