@@ -1,0 +1,130 @@
+-- What the writes of a rule leave, over plain variables.
+use Prim.Native.Nat.{ℕ, suc, _+_, _*_, _≤_, _<_}
+use native.Mathlib.Omega.{arith}
+use native.Mathlib.Numerals.{add-one, towards-suc}
+use mathlib.Core.Path.{_≡_, refl, sym, ap, _∙_}
+use mathlib.Core.List.{List, [], _∷_, _++_, map, map-append}
+use lib.ListN.{length, getD, take, drop, set, length-map, length-take, drop-of-length-le}
+use lib.Seq.{sets, drop-cons, getD-take}
+use Rattle.store.specs.declared.Context.{Context}
+use Rattle.rules.specs.declared.AggregateFunction.{AggregateFunction}
+use Rattle.rules.specs.declared.Relation.{Relation}
+use Rattle.rules.specs.declared.Binding.{Binding}
+use Rattle.rules.specs.declared.Binding.the-variants.{Positive, Assign, Range, Aggregate}
+use Rattle.rules.specs.declared.Guard.{Guard}
+use Rattle.rules.specs.declared.Guard.the-variants.{Compare, Membership}
+use Rattle.rules.specs.declared.BindingItem.{BindingItem}
+use Rattle.rules.specs.declared.GuardItem.{GuardItem}
+use Rattle.rules.specs.declared.Head.{Head}
+use Rattle.rules.specs.declared.Rule.{Rule}
+use Rattle.rules.specs.Rule.{functionNumber, relationNumber, bindingCells, guardCells, headCells, markOf, numberOf, fixedCells, bindingsOf, guardsOf, headsOf, flat, cell, row, putRule}
+
+-- ---- cells one after another
+
+pub four-put : (d : List ℕ) (at : ℕ) (a b c e : ℕ) {l₁ l₂ l₃ r : List ℕ} → l₁ ≡ set d at (cell a) → l₂ ≡ set l₁ (at + 1) (cell b) → l₃ ≡ set l₂ (at + 2) (cell c) →
+    r ≡ set l₃ (at + 3) (cell e) → r ≡ sets d at (map cell (a ∷ b ∷ c ∷ e ∷ []))
+four-put d at a b c e p₁ p₂ p₃ p = p ∙ rw (p₃, p₂, p₁) (simp towards-suc)
+
+pub two-put : (d : List ℕ) (at : ℕ) (a b : ℕ) {l r : List ℕ} → l ≡ set d at (cell a) → r ≡ set l (at + 1) (cell b) → r ≡ sets d at (map cell (a ∷ b ∷ []))
+two-put d at a b p₁ p = p ∙ rw p₁ (simp towards-suc)
+
+-- ---- a list of items, each of `width` cells: what is left to write, from the i-th on
+
+pub record Putting {A : Type 0} (f : A → List ℕ) (width : ℕ) (r cells : List ℕ) (at : ℕ) (items : List A) (i : ℕ) : Type 0 where
+  pub is : r ≡ sets cells (at + width * i) (map cell (flat f (drop i items)))
+
+-- what is written in two parts
+sets-both : (l : List ℕ) (b : ℕ) (xs ys : List ℕ) → sets l b (xs ++ ys) ≡ sets (sets l b xs) (b + length xs) ys
+sets-both l b [] ys = ap (λ (n : ℕ). sets l n ys) (omega arith)
+sets-both l b (x ∷ xs) ys = sets-both (set l b x) (suc b) xs ys ∙ ap (λ (n : ℕ). sets (sets (set l b x) (suc b) xs) n ys) (omega arith)
+
+module _ {A : Type 0} (f : A → List ℕ) (width : ℕ) where
+  pub put-none : (cells : List ℕ) (at : ℕ) (items : List A) → Putting f width (sets cells at (map cell (flat f items))) cells at items 0
+  put-none cells at items = record { is = ap (λ (n : ℕ). sets cells n (map cell (flat f items))) (omega arith) }
+
+  module _ {r cells : List ℕ} {at : ℕ} {items : List A} {i : ℕ} (p : Putting f width r cells at items i) where
+    put-more : (z : A) {m : List ℕ} → i < length items → length (f (getD items i z)) ≡ width → m ≡ sets cells (at + width * i) (map cell (f (getD items i z))) → Putting f width r m at items (i + 1)
+    unfolding flat
+    put-more z {m} h w e = record {
+      is =
+          p .is
+          ∙ ap (λ (l : List A). sets cells (at + width * i) (map cell (flat f l))) (drop-cons items i z h)
+          ∙ ap (λ (l : List ℕ). sets cells (at + width * i) l) (map-append cell (f (getD items i z)) (flat f (drop (suc i) items)))
+          ∙ sets-both cells (at + width * i) (map cell (f (getD items i z))) (map cell (flat f (drop (suc i) items)))
+          ∙ rw (← e, length-map (f (getD items i z)) cell, w, add-one) (ap (λ (n : ℕ). sets m n (map cell (flat f (drop (suc i) items)))) (omega arith));
+    }
+
+    put-all : length items ≤ i → cells ≡ r
+    unfolding flat
+    put-all h = sym (p .is ∙ rw (drop-of-length-le items {i = i} h))
+
+-- the i-th of the first `count` items is written
+module _ {A : Type 0} (f : A → List ℕ) (width : ℕ) (items : List A) (count : ℕ) (few : count ≤ length items) where
+  taken : length (take count items) ≡ count
+  taken = simp length-take (omega arith)
+
+  module _ {r cells : List ℕ} {at i : ℕ} (p : Putting f width r cells at (take count items) i) where
+    pub put-item : ((a : A) → length (f a) ≡ width) → (z : A) {m : List ℕ} → i < count → m ≡ sets cells (at + width * i) (map cell (f (getD items i z))) →
+        Putting f width r m at (take count items) (i + 1)
+    put-item same z h e =
+        put-more f width p z (omega (arith, taken)) (same (getD (take count items) i z))
+        (e ∙ ap (λ (a : A). sets cells (at + width * i) (map cell (f a))) (sym (getD-take count items i z h)))
+
+    pub put-last : count ≤ i → cells ≡ r
+    put-last h = put-all f width p (omega (arith, taken))
+
+-- ---- how many cells each has
+
+pub binding-width : (i : BindingItem) → length (bindingCells (i .binding)) ≡ 4
+binding-width i = go (i .binding)
+  where
+    go : (b : Binding) → length (bindingCells b) ≡ 4
+    go (Positive s a) = refl
+    go (Assign s v) = refl
+    go (Range s l h) = refl
+    go (Aggregate s g) = refl
+
+pub guard-width : (i : GuardItem) → length (guardCells (i .guard)) ≡ 4
+guard-width i = go (i .guard)
+  where
+    go : (g : Guard) → length (guardCells g) ≡ 4
+    go (Compare l x r) = refl
+    go (Membership s l h) = refl
+
+pub head-width : (h : Head) → length (headCells h) ≡ 2
+head-width h = refl
+
+pub head-put : (d : List ℕ) (at : ℕ) (h : Head) {l r : List ℕ} → l ≡ set d at (cell (h .argument)) → r ≡ set l (at + 1) (cell (h .value)) → r ≡ sets d at (map cell (headCells h))
+head-put d at h p q = two-put d at (h .argument) (h .value) p q
+
+-- ---- a binding and a guard, by their case
+
+module _ (d : List ℕ) (at : ℕ) {r : List ℕ} where
+  pub binding-put : {b c : Binding} → b ≡ c → r ≡ sets d at (map cell (bindingCells c)) → r ≡ sets d at (map cell (bindingCells b))
+  binding-put e h = rw e h
+
+  pub aggregate-put : {b : Binding} {slot n : ℕ} {f : AggregateFunction} → b ≡ Aggregate slot f → n ≡ functionNumber f → r ≡ sets d at (map cell (3 ∷ slot ∷ n ∷ 0 ∷ [])) →
+      r ≡ sets d at (map cell (bindingCells b))
+  aggregate-put e q h = rw e (h ∙ rw q)
+
+  pub compare-put : {g : Guard} {left n right : ℕ} {x : Relation} → g ≡ Compare left x right → n ≡ relationNumber x → r ≡ sets d at (map cell (0 ∷ left ∷ n ∷ right ∷ [])) →
+      r ≡ sets d at (map cell (guardCells g))
+  compare-put e q h = rw e (h ∙ rw q)
+
+  pub membership-put : {g : Guard} {slot low high : ℕ} → g ≡ Membership slot low high → r ≡ sets d at (map cell (1 ∷ slot ∷ low ∷ high ∷ [])) → r ≡ sets d at (map cell (guardCells g))
+  membership-put e h = rw e h
+
+-- ---- the six cells before the bindings
+
+pub fixed-put : (d : List ℕ) (at : ℕ) (r : Rule) (c : Context) {a b : ℕ} {l₁ l₂ l : List ℕ} → a ≡ markOf c → b ≡ numberOf c →
+    l₁ ≡ sets d at (map cell (r .slots ∷ a ∷ b ∷ r .lengths .bindings ∷ [])) → l₂ ≡ set l₁ (at + 4) (cell (r .lengths .guards)) → l ≡ set l₂ (at + 5) (cell (r .lengths .heads)) →
+    l ≡ sets d at (map cell (fixedCells r c))
+fixed-put d at r c e f p q s = s ∙ rw (q, p, e, f) (simp towards-suc)
+
+-- ---- a whole row
+
+pub rule-put : (d : List ℕ) (id : ℕ) (r : Rule) (c : Context) {l₁ l₂ l₃ l : List ℕ} → l₁ ≡ sets d (row * id) (map cell (fixedCells r c)) →
+    l₂ ≡ sets l₁ (row * id + 6) (map cell (flat (λ i. bindingCells (i .binding)) (bindingsOf r))) →
+    l₃ ≡ sets l₂ (row * id + 134) (map cell (flat (λ i. guardCells (i .guard)) (guardsOf r))) → l ≡ sets l₃ (row * id + 262) (map cell (flat headCells (headsOf r))) → l ≡ putRule d id r c
+unfolding putRule
+rule-put d id r c p q s t = t ∙ rw (s, q, p)
