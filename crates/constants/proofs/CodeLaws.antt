@@ -2,8 +2,8 @@
 use Prim.Native.Nat.{ℕ, _+_, _-_, _<_, _≤_}
 use native.Mathlib.Omega.{arith}
 use mathlib.Core.Path.{_≡_, refl, sym, ap, _∙_}
-use mathlib.Core.Bool.{Bool, true, false, cond, _&&_}
-use mathlib.Core.List.{List, []}
+use mathlib.Core.Bool.{Bool, true, false}
+use mathlib.Core.List.{List}
 use borrow.Author.Tests.{lt-ltb, le-ltb, eq-eqb, ne-eqb, ltb-true, leb-true, eqb-true}
 use lib.Dec.{leb, ltb, eqb}
 use lib.IntN.{ℤ}
@@ -29,20 +29,49 @@ use Rattle.search.specs.declared.Sought.{Sought}
 use Rattle.search.specs.declared.Sought.the-variants.{Found, Absent, Stopped}
 use Rattle.search.specs.Answers.{Seeks, sought}
 use Rattle.search.proofs.Complete.{absent-within}
-use Rattle.thresholds.specs.Thresholds.{Entry, entry, around}
+use Rattle.thresholds.specs.Thresholds.{Entry, around}
 use Rattle.keys.specs.Key.{Key, number, name, keyOf, putCells, putName, probe, seekKey}
 use Rattle.store.specs.declared.Counts.{Counts}
 use Rattle.store.specs.declared.Store.{Store}
 use Rattle.store.specs.declared.Done.{Done}
-use Rattle.store.specs.declared.Done.the-variants as done-as
+use Rattle.store.specs.declared.Done.the-variants as outcome
 use Rattle.store.specs.declared.Answer.{Answer}
 use Rattle.store.specs.declared.Answer.the-variants.{Id, Refused}
-use Rattle.store.specs.Store.{admits, withBudget, withConstants, withKeys, withThresholds}
+use Rattle.store.specs.Store.{admits, withBudget, withConstants, withKeys}
 use Rattle.store.specs.Calls.{charged, Marks, marks, entering}
 use Rattle.store.specs.Answers.{done, onMarks}
 use Rattle.store.proofs.CodeLaws.{charged-counts}
-use Rattle.constants.specs.Constant.{bytesOf, retains, classify, KeyTables, keyTables, kindOf, payloadOf, cost, settle, keep, abandon, retain, Tables, tables, inMarks, inKeys, inHeader, sizes, spacious, constantCall}
+use Rattle.constants.specs.Constant.{bytesOf, retains, classify, kindOf, payloadOf, cost, settle, keep, abandon, retain, Tables, tables, inMarks, inKeys, inHeader, sizes, spacious, constantCall}
 use Rattle.constants.specs.Answers.{onKeys, Adds, Keeps, Abandons, Retains, onTables}
+
+-- ---- m on a part of the state (`through`, and so `zoom` and `stopping`)
+
+module _ {E F S T A : Type 0} (get : S → T) (kept left : S → T → S) (tell : E → F) (m : Metered E T A) (s : S) where
+  through-on : {a : A} {t : T} → going a t ≡ m (get s) → going a (kept s t) ≡ through get kept left tell m s
+  unfolding through mapped
+  through-on h = rw (← h)
+
+  through-stop : {e : E} {t : T} → stopped e t ≡ m (get s) → stopped (tell e) (left s t) ≡ through get kept left tell m s
+  unfolding through mapped
+  through-stop h = rw (← h)
+
+  through-is : {x : Run E T A} → x ≡ m (get s) → mapped (kept s) (left s) tell x ≡ through get kept left tell m s
+  unfolding through
+  through-is h = ap (mapped (kept s) (left s) tell) h
+
+  -- where it completes, m did
+  record Came (a : A) (u : S) : Type 0 where
+    part : T
+    from : going a part ≡ m (get s)
+    is : u ≡ kept s part
+
+  came : {a : A} {u : S} → going a u ≡ through get kept left tell m s → Came a u
+  unfolding through mapped
+  came {a} {u} = go (m (get s)) refl
+    where
+      go : (x : Run E T A) → m (get s) ≡ x → going a u ≡ mapped (kept s) (left s) tell x → Came a u
+      go (going b t) e h = record { part = t; from = cc; is = cc }
+      go (stopped y t) e h = let z : _≡_ {A = ℕ} 0 1 = cc in absurd (omega arith)
 
 -- ---- refusals 1 and 2
 
@@ -62,8 +91,8 @@ module _ (n c o t : ℕ) where
       sized-is h = rw (eq-eqb n 65536 f, eq-eqb c 2048 g, eq-eqb o 1024 h)
 
   -- of the sizes only that of the thresholds is used
-  pub sized-thresholds : {x : Bool} → x ≡ sizes n c o t → x ≡ true → t ≡ 4096
-  sized-thresholds q e = eqb-true t 4096 (and-right (eqb o 1024) _ (and-right (eqb c 2048) _ (and-right (eqb n 65536) _ (sym q ∙ e))))
+  sized-thresholds : sizes n c o t ≡ true → t ≡ 4096
+  sized-thresholds e = eqb-true t 4096 (and-right (eqb o 1024) _ (and-right (eqb c 2048) _ (and-right (eqb n 65536) _ e)))
 
 module _ (n : Counts) where
   pub room-constants : 1024 ≤ n .constants → false ≡ spacious n
@@ -75,9 +104,8 @@ module _ (n : Counts) where
   pub room-is : n .constants < 1024 → n .keys < 1024 → leb (n .thresholds) 4088 ≡ spacious n
   room-is h k = rw (lt-ltb (n .constants) 1024 h, lt-ltb (n .keys) 1024 k)
 
-  pub room-yes : {x : Bool} → x ≡ spacious n → x ≡ true → (n .constants < 1024) × ((n .keys < 1024) × (n .thresholds ≤ 4088))
-  room-yes q e =
-      let h : spacious n ≡ true = sym q ∙ e in
+  room-yes : spacious n ≡ true → (n .constants < 1024) × ((n .keys < 1024) × (n .thresholds ≤ 4088))
+  room-yes h =
       let k = and-right (ltb (n .constants) 1024) _ h in
       (ltb-true _ _ (and-left (ltb (n .constants) 1024) _ h), (ltb-true _ _ (and-left (ltb (n .keys) 1024) _ k), leb-true _ _ (and-right (ltb (n .keys) 1024) _ k)))
 
@@ -118,16 +146,12 @@ module _ {named : Bool} (z : ℤ) (text : List ℕ) where
 -- a call on the header alone leaves the thresholds
 beside : (r : Done) (t : List ℤ) → onMarks r t ≡ mapped (λ s. marks s t) (λ s. marks s t) (λ e. e) (done r)
 unfolding mapped
-beside (done-as.Ok s) t = refl
-beside (done-as.Refused x s) t = refl
-
-alone : (m : Metered Told Store (Unit {0})) (s : Store) (t : List ℤ) (r : Done) → done r ≡ m s → onMarks r t ≡ zoom (λ (u : Marks). u .header) (λ s u. marks s (u .table)) m (marks s t)
-unfolding through
-alone m s t r h = beside r t ∙ ap (mapped (λ s. marks s t) (λ s. marks s t) (λ e. e)) h
+beside (outcome.Ok s) t = refl
+beside (outcome.Refused x s) t = refl
 
 module _ {named : Bool} (z : ℤ) (text : List ℕ) (s : Store) (t : List ℤ) where
   pub classified-name : (r : Done) → named ≡ true → done r ≡ charged (bytes (length text)) s → onMarks r t ≡ classify (keyOf named z text) (marks s t)
-  classified-name r e h = rw e (alone (charged (bytes (length text))) s t r h)
+  classified-name r e h = rw e (beside r t ∙ through-is _ _ _ _ (charged (bytes (length text))) (marks s t) h)
 
   pub classified-number : {x : Run Told Marks (Unit {0})} → named ≡ false → x ≡ entering (around z) (marks s t) → x ≡ classify (keyOf named z text) (marks s t)
   classified-number e h = rw e h
@@ -164,19 +188,6 @@ same-counts s b e = rw e
 
 -- ---- the ways of `keep`
 
--- a step on the header, with the tables of keys beside it
-abbrev onHeader : {A : Type 0} → Metered Told Store A → Metered Told KeyTables A
-onHeader = zoom (λ t. t .header) (λ s t. keyTables s (t .names) (t .constants) (t .order))
-
-module _ {A : Type 0} (m : Metered Told Store A) (s : Store) {n c o : List ℕ} where
-  keys-on : {a : A} {u : Store} → going a u ≡ m s → going a (keyTables u n c o) ≡ onHeader m (keyTables s n c o)
-  unfolding through mapped
-  keys-on h = rw (← h)
-
-  keys-stop : {e : Told} {u : Store} → stopped e u ≡ m s → stopped e (keyTables u n c o) ≡ onHeader m (keyTables s n c o)
-  unfolding through mapped
-  keys-stop h = rw (← h)
-
 module _ (k : Key) (s : Store) (n c o : List ℕ) {r : Sought} (h : Seeks (seekKey n c o (s .counts .keys) k) (s .budget .statistics .work) (s .budget .limits .work) r) where
   -- the budget after the search
   abbrev searched : ℕ → Budget
@@ -210,17 +221,17 @@ module _ (k : Key) (s : Store) (n c o : List ℕ) {r : Sought} (h : Seeks (seekK
 -- ---- and of `abandon`
 
 module _ (s : Store) (c : List ℕ) {x : Done} (h : done x ≡ charged (links 1) s) where
-  pub abandon-unpaid : {y : Refusal} {s′ : Store} → x ≡ done-as.Refused y s′ → Abandons s c (Refused y s′) c
+  pub abandon-unpaid : {y : Refusal} {s′ : Store} → x ≡ outcome.Refused y s′ → Abandons s c (Refused y s′) c
   unfolding abandon
-  abandon-unpaid e = record { is = λ n o. then-stop _ _ _ (keys-stop (charged (links 1)) s (sym (ap done e) ∙ h)) }
+  abandon-unpaid e = record { is = λ n o. then-stop _ _ _ (through-stop _ _ _ _ (charged (links 1)) _ (sym (ap done e) ∙ h)) }
 
-  module _ {u : Store} (e : x ≡ done-as.Ok u) where
+  module _ {u : Store} (e : x ≡ outcome.Ok u) where
     pub paid-counts : u .counts ≡ s .counts
     paid-counts = charged-counts (links 1) s (sym (ap done e) ∙ h)
 
     pub abandon-new : {s′ : Store} {c′ : List ℕ} → c′ ≡ putCells c (s .counts .constants) 0 0 → s′ ≡ withConstants (u .counts .constants + 1) u → Abandons s c (Id (s .counts .constants) s′) c′
     unfolding abandon
-    abandon-new g q = record { is = λ n o. then-on _ _ _ (keys-on (charged (links 1)) s (sym (ap done e) ∙ h)) (rw (q, g, paid-counts)) }
+    abandon-new g q = record { is = λ n o. then-on _ _ _ (through-on _ _ _ _ (charged (links 1)) _ (sym (ap done e) ∙ h)) (rw (q, g, paid-counts)) }
 
 -- ---- either
 
@@ -241,31 +252,16 @@ SameRows u s = (u .counts .constants ≡ s .counts .constants) × (u .counts .ke
 
 module _ (s : Store) (t : List ℤ) {u : Store} {t′ : List ℤ} where
   entered-rows : (m : Metered Stop Entry (Unit {0})) → going tt (marks u t′) ≡ entering m (marks s t) → SameRows u s
-  unfolding through mapped
-  entered-rows m = go (m (entry (s .budget) (s .counts .thresholds) t))
-    where
-      left : Entry → Marks
-      left e = marks (withThresholds (e .count) (withBudget (e .budget) s)) (e .table)
-      go : (x : Run Stop Entry (Unit {0})) → going tt (marks u t′) ≡ mapped (λ u. u) (λ u. u) (λ e. told (Limit e)) (mapped left left (λ e. e) x) → SameRows u s
-      go (going v e) h =
-          let k : marks u t′ ≡ left e = cc in
-          (ap (λ (m : Marks). m .header .counts .constants) k, ap (λ (m : Marks). m .header .counts .keys) k)
-      go (stopped e b) h = let z : _≡_ {A = ℕ} 0 1 = cc in absurd (omega arith)
+  entered-rows m h =
+      let p = came _ _ _ _ _ (marks s t) h in
+      let q = came _ _ _ _ m (marks s t) (p .from) in
+      (ap (λ (v : Marks). v .header .counts .constants) (p .is ∙ q .is), ap (λ (v : Marks). v .header .counts .keys) (p .is ∙ q .is))
 
   named-rows : (m : Metered Stop Budget (Unit {0})) → going tt (marks u t′) ≡ zoom (λ (v : Marks). v .header) (λ s v. marks s (v .table)) (charged m) (marks s t) → SameRows u s
-  unfolding through mapped
-  named-rows m = go (m (s .budget))
-    where
-      left : Budget → Store
-      left b = withBudget b s
-      beside-t : Store → Marks
-      beside-t v = marks v t
-      go : (x : Run Stop Budget (Unit {0})) →
-          going tt (marks u t′) ≡ mapped beside-t beside-t (λ e. e) (mapped (λ v. v) (λ v. v) (λ e. told (Limit e)) (mapped left left (λ e. e) x)) → SameRows u s
-      go (going v b) h =
-          let k : marks u t′ ≡ marks (withBudget b s) t = cc in
-          (ap (λ (m : Marks). m .header .counts .constants) k, ap (λ (m : Marks). m .header .counts .keys) k)
-      go (stopped e b) h = let z : _≡_ {A = ℕ} 0 1 = cc in absurd (omega arith)
+  named-rows m h =
+      let p = came _ _ _ _ (charged m) (marks s t) h in
+      let e = ap (λ (v : Marks). v .header .counts) (p .is) ∙ charged-counts m s (p .from) in
+      (ap (λ (n : Counts). n .constants) e, ap (λ (n : Counts). n .keys) e)
 
   classified-rows : (k : Key) → going tt (marks u t′) ≡ classify k (marks s t) → SameRows u s
   classified-rows (number v) h = entered-rows (around v) h
@@ -273,44 +269,25 @@ module _ (s : Store) (t : List ℤ) {u : Store} {t′ : List ℤ} where
 
 -- an answer, by its case, as what the monad gives
 module _ {r : Done} {t : List ℤ} {x : Run Told Marks (Unit {0})} {s : Store} where
-  pub went : r ≡ done-as.Ok s → onMarks r t ≡ x → going tt (marks s t) ≡ x
+  pub went : r ≡ outcome.Ok s → onMarks r t ≡ x → going tt (marks s t) ≡ x
   went e h = sym (ap (λ (y : Done). onMarks y t) e) ∙ h
 
-  pub turned : (y : Refusal) → r ≡ done-as.Refused y s → onMarks r t ≡ x → stopped (told y) (marks s t) ≡ x
+  pub turned : (y : Refusal) → r ≡ outcome.Refused y s → onMarks r t ≡ x → stopped (told y) (marks s t) ≡ x
   turned y e h = sym (ap (λ (y : Done). onMarks y t) e) ∙ h
 
--- a step on the header, or on the header and the thresholds, with the other tables beside it
-module _ {s u : Store} {n c o : List ℕ} {t : List ℤ} where
-  module _ (m : Metered Told Store (Unit {0})) where
-    header-on : going tt u ≡ m s → going tt (tables u n c o t) ≡ inHeader m (tables s n c o t)
-    unfolding through mapped
-    header-on h = rw (← h)
-
-    header-stop : {e : Told} → stopped e u ≡ m s → stopped e (tables u n c o t) ≡ inHeader m (tables s n c o t)
-    unfolding through mapped
-    header-stop h = rw (← h)
-
-  module _ (m : Metered Told Marks (Unit {0})) {t′ : List ℤ} where
-    marks-on : going tt (marks u t′) ≡ m (marks s t) → going tt (tables u n c o t′) ≡ inMarks m (tables s n c o t)
-    unfolding through mapped
-    marks-on h = rw (← h)
-
-    marks-stop : {e : Told} → stopped e (marks u t′) ≡ m (marks s t) → stopped e (tables u n c o t′) ≡ inMarks m (tables s n c o t)
-    unfolding through mapped
-    marks-stop h = rw (← h)
-
--- and the last one, on the tables of keys
+-- an answer with the tables of keys, and one with all tables
 wider : (r : Answer) (n c o : List ℕ) (t : List ℤ) →
     onTables r n c o t ≡ mapped (λ u. tables (u .header) (u .names) (u .constants) (u .order) t) (λ u. tables (u .header) (u .names) (u .constants) (u .order) t) (λ e. e) (onKeys r n c o)
 unfolding mapped
 wider (Id i s) n c o t = refl
 wider (Refused y s) n c o t = refl
 
-keys-last : (m : Metered Told KeyTables ℕ) (s : Store) (n c o : List ℕ) (t : List ℤ) (r : Answer) (n′ c′ o′ : List ℕ) → onKeys r n′ c′ o′ ≡ m (keyTables s n c o) →
-    onTables r n′ c′ o′ t ≡ inKeys m (tables s n c o t)
-unfolding through
-keys-last m s n c o t r n′ c′ o′ h =
-    wider r n′ c′ o′ t ∙ ap (mapped (λ u. tables (u .header) (u .names) (u .constants) (u .order) t) (λ u. tables (u .header) (u .names) (u .constants) (u .order) t) (λ e. e)) h
+-- what the four tests tell
+pub record Passed (k : Key) (s : Store) (n c o : List ℕ) (t : List ℤ) : Type 0 where
+  pub sized : sizes (length n) (length c) (length o) (length t) ≡ true
+  pub short : leb (length (bytesOf k)) 64 ≡ true
+  pub opened : admits (s .phase) ≡ true
+  pub room : spacious (s .counts) ≡ true
 
 module _ (k : Key) (s : Store) (n c o : List ℕ) (t : List ℤ) {x₁ : Bool} (h₁ : x₁ ≡ sizes (length n) (length c) (length o) (length t)) where
   pub call-shape : x₁ ≡ false → stopped (told Shape) (tables s n c o t) ≡ constantCall k (tables s n c o t)
@@ -332,30 +309,33 @@ module _ (k : Key) (s : Store) (n c o : List ℕ) (t : List ℤ) {x₁ : Bool} (
         unfolding constantCall
         call-full e = rw (← h₁, y₁, ← h₂, y₂, ← h₃, y₃, ← h₄, e)
 
-        module _ (y₄ : x₄ ≡ true) where
-          admitted : {y : Run Told Tables ℕ} → y ≡ (inHeader (charged (work 1)) >> inMarks (classify k) >> inKeys (retain k)) (tables s n c o t) → y ≡ constantCall k (tables s n c o t)
-          unfolding constantCall
-          admitted g = rw (← h₁, y₁, ← h₂, y₂, ← h₃, y₃, ← h₄, y₄) g
+        pub passed : x₄ ≡ true → Passed k s n c o t
+        passed y₄ = record { sized = sym h₁ ∙ y₁; short = sym h₂ ∙ y₂; opened = sym h₃ ∙ y₃; room = sym h₄ ∙ y₄ }
 
-          pub call-unpaid : (r : Refusal) {u : Store} → stopped (told r) u ≡ charged (work 1) s → stopped (told r) (tables u n c o t) ≡ constantCall k (tables s n c o t)
-          call-unpaid r p = admitted (then-stop _ _ _ (header-stop (charged (work 1)) p))
+module _ {k : Key} {s : Store} {n c o : List ℕ} {t : List ℤ} (g : Passed k s n c o t) where
+  admitted : {y : Run Told Tables ℕ} → y ≡ (inHeader (charged (work 1)) >> inMarks (classify k) >> inKeys (retain k)) (tables s n c o t) → y ≡ constantCall k (tables s n c o t)
+  unfolding constantCall
+  admitted h = rw (g .sized, g .short, g .opened, g .room) h
 
-          module _ {u : Store} (p : going tt u ≡ charged (work 1) s) where
-            pub call-marks : u .counts .thresholds + 3 ≤ length t
-            call-marks = rw (charged-counts (work 1) s p) (omega (arith, room-yes (s .counts) h₄ y₄ .1 .1, sized-thresholds (length n) (length c) (length o) (length t) h₁ y₁))
+  pub call-unpaid : (r : Refusal) {u : Store} → stopped (told r) u ≡ charged (work 1) s → stopped (told r) (tables u n c o t) ≡ constantCall k (tables s n c o t)
+  call-unpaid r p = admitted (then-stop _ _ _ (through-stop _ _ _ _ (charged (work 1)) _ p))
 
-            module _ {v : Store} {t′ : List ℤ} where
-              pub call-class : (r : Refusal) → stopped (told r) (marks v t′) ≡ classify k (marks u t) → stopped (told r) (tables v n c o t′) ≡ constantCall k (tables s n c o t)
-              call-class r q = admitted (then-on _ _ _ (header-on (charged (work 1)) p) (then-stop _ _ _ (marks-stop (classify k) q)))
+  module _ {u : Store} (p : going tt u ≡ charged (work 1) s) where
+    pub call-marks : u .counts .thresholds + 3 ≤ length t
+    call-marks = rw (charged-counts (work 1) s p) (omega (arith, room-yes (s .counts) (g .room) .1 .1, sized-thresholds (length n) (length c) (length o) (length t) (g .sized)))
 
-              module _ (q : going tt (marks v t′) ≡ classify k (marks u t)) where
-                pub call-room : (v .counts .constants ≤ 1024) × ((v .counts .keys ≤ 1024) × (length (bytesOf k) ≤ 64))
-                call-room =
-                    let a = classified-rows u t k q in
-                    let b = charged-counts (work 1) s p in
-                    let h = room-yes (s .counts) h₄ y₄ in
-                    (rw (a .0, b) (omega (arith, h .0)), (rw (a .1, b) (omega (arith, h .1 .0)), leb-true (length (bytesOf k)) 64 (sym h₂ ∙ y₂)))
+    module _ {v : Store} {t′ : List ℤ} where
+      pub call-unread : (r : Refusal) → stopped (told r) (marks v t′) ≡ classify k (marks u t) → stopped (told r) (tables v n c o t′) ≡ constantCall k (tables s n c o t)
+      call-unread r q = admitted (then-on _ _ _ (through-on _ _ _ _ (charged (work 1)) _ p) (then-stop _ _ _ (through-stop _ _ _ _ (classify k) _ q)))
 
-                pub call-id : {r : Answer} {n′ c′ o′ : List ℕ} → Retains k v n c o r n′ c′ o′ → onTables r n′ c′ o′ t′ ≡ constantCall k (tables s n c o t)
-                call-id {r} {n′} {c′} {o′} j =
-                    admitted (then-on _ _ _ (header-on (charged (work 1)) p) (then-on _ _ _ (marks-on (classify k) q) (keys-last (retain k) v n c o t′ r n′ c′ o′ (j .is))))
+      module _ (q : going tt (marks v t′) ≡ classify k (marks u t)) where
+        pub call-room : (v .counts .constants ≤ 1024) × ((v .counts .keys ≤ 1024) × (length (bytesOf k) ≤ 64))
+        call-room =
+            let a = classified-rows u t k q in
+            let b = charged-counts (work 1) s p in
+            let h = room-yes (s .counts) (g .room) in
+            (rw (a .0, b) (omega (arith, h .0)), (rw (a .1, b) (omega (arith, h .1 .0)), leb-true (length (bytesOf k)) 64 (g .short)))
+
+        pub call-id : {r : Answer} {n′ c′ o′ : List ℕ} → Retains k v n c o r n′ c′ o′ → onTables r n′ c′ o′ t′ ≡ constantCall k (tables s n c o t)
+        call-id {r} {n′} {c′} {o′} j =
+            admitted (then-on _ _ _ (through-on _ _ _ _ (charged (work 1)) _ p) (then-on _ _ _ (through-on _ _ _ _ (classify k) _ q) (wider r n′ c′ o′ t′ ∙ through-is _ _ _ _ (retain k) (tables v n c o t′) (j .is))))

@@ -194,10 +194,7 @@ fn keep(
         }
         Sought::Found(i, work) => {
             let paid = budget.with(Resource::Work, work);
-            Answer::Id(
-                cells::cell_at(order, i) as usize,
-                store.with_budget(paid),
-            )
+            Answer::Id(cells::cell_at(order, i) as usize, store.with_budget(paid))
         }
         Sought::Absent(low, work) => {
             let moved = (counts.keys - low) as u64;
@@ -207,7 +204,10 @@ fn keep(
                 }
                 Billed::Paid(paid) => {
                     let ready = store.with_budget(paid);
-                    Answer::Id(id, add(ready, low, named, number, text, names, constants, order))
+                    Answer::Id(
+                        id,
+                        add(ready, low, named, number, text, names, constants, order),
+                    )
                 }
             }
         }
@@ -297,7 +297,16 @@ pub fn constant_number(
     ensures { λ r. ⌜ onTables r (now (names .exit)) (now (constants .exit)) (now (order .exit)) (now (thresholds .exit)) ≡ constantCall (number value) (tables store (now (names .entry)) (now (constants .entry)) (now (order .entry)) (now (thresholds .entry))) ⌝ }
 {
     let none = [0u8; 1];
-    constant(store, false, value, &none, names, constants, order, thresholds)
+    constant(
+        store,
+        false,
+        value,
+        &none,
+        names,
+        constants,
+        order,
+        thresholds,
+    )
 }
 
 // The id of a name.

@@ -1,34 +1,29 @@
+-- `constants::classified` meets its contract.
+use borrow.Author.Needs.{needs}
 use mir.Facts.{toZ-ofZ}
 use denote.Ref.{now}
 use Rattle.constants.proofs.CodeLaws.{classified-name, classified-number}
-use borrow.Author.Needs.{needs}
-use native.Mathlib.Omega.{arith}
 use Rattle.constants.proofs.classified.Statement.{statement}
 use Rattle.constants.proofs.classified.Tie as tie
-use Rattle.constants.proofs.classified.Reads as reads
-use Rattle.constants.proofs.classified.Lts as lts
-use Rattle.store.proofs.Store.charge.Reads as charge-reads
-use Rattle.store.proofs.Store.enter_around.Reads as enter-around-reads
 
--- src/lib.rt:84:9
 charge-requires : tie.Need-charge-requires
 charge-requires c κs = search needs
 
--- src/lib.rt:84:9
 returns : tie.Need-returns
-returns c = let a = c .before .before .before .args in classified-name (a .number) (now (a .text)) (a .store) (now (a .thresholds)) (c .charge .result) (c .before .if1 .taken) (c .charge .ensures)
+returns c =
+    let a = c .before .before .before .args in
+    classified-name (a .number) (now (a .text)) (a .store) (now (a .thresholds)) (c .charge .result) (c .before .if1 .taken) (c .charge .ensures)
 
--- src/lib.rt:86:5
 enter-around-requires : tie.Need-enter-around-requires
 enter-around-requires c κs = search needs
 
--- src/lib.rt:79:1
 same-length : tie.Need-same-length
 same-length c = search needs
 
--- src/lib.rt:79:1
 returns-2 : tie.Need-returns-2
-returns-2 c = let a = c .before .before .before .before .before .args in classified-number (a .number) (now (a .text)) (a .store) (now (a .thresholds)) (c .before .before .before .if1 .left) (rw (toZ-ofZ (c .before .before .before .before .before .fits .number)) at (c .before .enter-around .ensures))
+returns-2 c =
+    let a = c .before .before .before .before .before .args in
+    classified-number (a .number) (now (a .text)) (a .store) (now (a .thresholds)) (c .before .before .before .if1 .left) (rw (toZ-ofZ (c .before .before .before .before .before .fits .number)) at (c .before .enter-around .ensures))
 
 pub classified-spec : {M : Type 1} → statement M
 classified-spec =

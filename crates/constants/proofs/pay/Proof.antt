@@ -1,33 +1,24 @@
-use Rattle.constants.proofs.CodeLaws.{cost-stopped, cost-paid}
+-- `constants::pay` meets its contract.
 use borrow.Author.Needs.{needs}
-use native.Mathlib.Omega.{arith}
+use Rattle.constants.proofs.CodeLaws.{cost-stopped, cost-paid}
 use Rattle.constants.proofs.pay.Statement.{statement}
 use Rattle.constants.proofs.pay.Tie as tie
-use Rattle.constants.proofs.pay.Reads as reads
-use Rattle.constants.proofs.pay.Lts as lts
-use Rattle.limits.proofs.Budget.charge.Reads as charge-reads
 
--- src/lib.rt:93:11
 charge-requires : tie.Need-charge-requires
 charge-requires c κs = search needs
 
--- src/lib.rt:94:25
 enum-known-stop : tie.Need-enum-known-stop
 enum-known-stop c = search needs
 
--- src/lib.rt:95:22
 enum-known-b : tie.Need-enum-known-b
 enum-known-b c = search needs
 
--- src/lib.rt:95:28
 charge-requires-2 : tie.Need-charge-requires-2
 charge-requires-2 c κs = search needs
 
--- src/lib.rt:90:1
 returns : tie.Need-returns
 returns c = cost-stopped _ _ (c .before .before .before .charge .ensures) (c .before .stop .given .1)
 
--- src/lib.rt:90:1
 returns-2 : tie.Need-returns-2
 returns-2 c = cost-paid _ _ (c .before .before .before .before .charge .ensures) (c .charge2 .result) (c .before .before .b .given .1) (c .charge2 .ensures)
 

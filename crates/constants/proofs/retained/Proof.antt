@@ -1,17 +1,12 @@
+-- `constants::retained` meets its contract.
 use denote.Ref.{now}
 use Rattle.constants.proofs.CodeLaws.{retained-name, retained-number}
-use borrow.Author.Needs.{needs}
-use native.Mathlib.Omega.{arith}
 use Rattle.constants.proofs.retained.Statement.{statement}
 use Rattle.constants.proofs.retained.Tie as tie
-use Rattle.constants.proofs.retained.Reads as reads
-use Rattle.constants.proofs.retained.Lts as lts
 
--- src/lib.rt:73:9
 returns : tie.Need-returns
 returns c = retained-name (c .before .before .before .before .args .number) (now (c .before .before .before .before .args .text)) (c .before .if1 .taken) (c .before .before .before .before .args .store .budget .limits)
 
--- src/lib.rt:67:1
 returns-2 : tie.Need-returns-2
 returns-2 c = retained-number (c .before .before .before .args .number) (now (c .before .before .before .args .text)) (c .if1 .left) (c .before .before .before .args .store .budget .limits)
 

@@ -1,20 +1,14 @@
+-- `constants::room` meets its contract.
 use Rattle.constants.proofs.CodeLaws.{room-constants, room-keys, room-is}
-use borrow.Author.Needs.{needs}
-use native.Mathlib.Omega.{arith}
 use Rattle.constants.proofs.room.Statement.{statement}
 use Rattle.constants.proofs.room.Tie as tie
-use Rattle.constants.proofs.room.Reads as reads
-use Rattle.constants.proofs.room.Lts as lts
 
--- src/lib.rt:48:9
 returns : tie.Need-returns
 returns c = room-constants (c .before .before .args .counts) (c .if1 .taken)
 
--- src/lib.rt:51:9
 returns-2 : tie.Need-returns-2
 returns-2 c = room-keys (c .before .before .before .before .args .counts) (c .before .before .if1 .left) (c .if2 .taken)
 
--- src/lib.rt:44:1
 returns-3 : tie.Need-returns-3
 returns-3 c = room-is (c .before .before .before .before .before .args .counts) (c .before .before .before .if1 .left) (c .before .if2 .left)
 
