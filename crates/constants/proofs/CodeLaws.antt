@@ -42,7 +42,7 @@ use Rattle.store.specs.Calls.{charged, Marks, marks, entering}
 use Rattle.store.specs.Answers.{done, onMarks}
 use Rattle.store.proofs.CodeLaws.{charged-counts}
 use Rattle.constants.specs.Constant.{bytesOf, retains, classify, kindOf, payloadOf, cost, settle, keep, abandon, retain, Tables, tables, inMarks, inKeys, inHeader, sizes, spacious, constantCall}
-use Rattle.constants.specs.Answers.{onKeys, Adds, Keeps, Abandons, Retains, onTables}
+use Rattle.constants.specs.Answers.{onKeys, Adds, Enrolls, Keeps, Abandons, Retains, onTables}
 
 -- ---- m on a part of the state (`through`, and so `zoom` and `stopping`)
 
@@ -186,37 +186,48 @@ asked-again s u named y z text e f h = rw (e, f) h
 pub same-counts : (s : Store) (b : Budget) {u : Store} → u ≡ withBudget b s → u .counts ≡ s .counts
 same-counts s b e = rw e
 
+-- ---- a key that is not in the key order yet
+
+module _ (k : Key) (low : ℕ) (s : Store) (n c o : List ℕ) {x : Billed} (h : ran x ≡ cost (s .counts .keys - low) (s .budget)) where
+  pub enroll-unpaid : {y : Stop} {b : Budget} {s′ : Store} → x ≡ bill.Stopped y b → s′ ≡ withBudget b s → Enrolls k low s n c o (Refused (Limit y) s′) n c o
+  unfolding settle _>>_ _>>=_ after through mapped
+  enroll-unpaid e q = record { is = rw (q, ← h, e) }
+
+  pub enroll-new : {b : Budget} {u s′ : Store} {n′ c′ o′ : List ℕ} → x ≡ bill.Paid b → u ≡ withBudget b s → Adds k low u n c o s′ n′ c′ o′ → Enrolls k low s n c o (Id (s .counts .constants) s′) n′ c′ o′
+  unfolding settle _>>_ _>>=_ after through mapped
+  enroll-new e q a = record { is = rw (← h, e) (rw q at (a .is)) }
+
 -- ---- the ways of `keep`
 
+pub searched-is : (s : Store) (w : ℕ) {b : Budget} {u : Store} → b ≡ withStatistics (withCount Work w (s .budget .statistics)) (s .budget) → u ≡ withBudget b s →
+    u ≡ withBudget (withStatistics (withCount Work w (s .budget .statistics)) (s .budget)) s
+searched-is s w p q = rw (q, p)
+
 module _ (k : Key) (s : Store) (n c o : List ℕ) {r : Sought} (h : Seeks (seekKey n c o (s .counts .keys) k) (s .budget .statistics .work) (s .budget .limits .work) r) where
-  -- the budget after the search
-  abbrev searched : ℕ → Budget
-  searched w = withStatistics (withCount Work w (s .budget .statistics)) (s .budget)
+  -- the header after the search
+  abbrev searched : ℕ → Store
+  searched w = withBudget (withStatistics (withCount Work w (s .budget .statistics)) (s .budget)) s
 
   ended : sought r (s .budget .limits .work) (s .budget .statistics .entries) (s .budget .limits .entries) ≡ seekKey n c o (s .counts .keys) k (meterOf (s .budget))
   ended = h .at (s .budget .statistics .entries) (s .budget .limits .entries)
 
-  pub keep-halted : {x : Stop} {w : ℕ} {b : Budget} {s′ : Store} → r ≡ Stopped x w → b ≡ searched w → s′ ≡ withBudget b s → Keeps k s n c o (Refused (Limit x) s′) n c o
+  pub keep-halted : {x : Stop} {w : ℕ} {u : Store} → r ≡ Stopped x w → u ≡ searched w → Keeps k s n c o (Refused (Limit x) u) n c o
   unfolding keep _>>=_ after through mapped
-  keep-halted e p q = record { is = rw (q, p, ← ended, e) }
+  keep-halted e q = record { is = rw (q, ← ended, e) }
 
-  pub keep-found : {i id w : ℕ} {b : Budget} {s′ : Store} → r ≡ Found i w → b ≡ searched w → id ≡ getD o i 0 → s′ ≡ withBudget b s → Keeps k s n c o (Id id s′) n c o
+  pub keep-found : {i id w : ℕ} {u : Store} → r ≡ Found i w → id ≡ getD o i 0 → u ≡ searched w → Keeps k s n c o (Id id u) n c o
   unfolding keep settle _>>=_ after through mapped
-  keep-found e p g q = record { is = rw (q, p, g, ← ended, e) }
+  keep-found e g q = record { is = rw (q, g, ← ended, e) }
 
-  module _ {low w : ℕ} (e : r ≡ Absent low w) where
-    pub place-within : low ≤ s .counts .keys
+  module _ {low w : ℕ} (e : r ≡ Absent low w) {u : Store} (q : u ≡ searched w) where
+    -- what is asked before it is enrolled
+    pub place-within : low ≤ u .counts .keys
     unfolding seekKey
-    place-within = absent-within (probe n c o k) (s .counts .keys) (meterOf (s .budget)) (sym (ap (λ (x : Sought). sought x (s .budget .limits .work) (s .budget .statistics .entries) (s .budget .limits .entries)) e) ∙ ended)
+    place-within = rw q (absent-within (probe n c o k) (s .counts .keys) (meterOf (s .budget)) (sym (ap (λ (x : Sought). sought x (s .budget .limits .work) (s .budget .statistics .entries) (s .budget .limits .entries)) e) ∙ ended))
 
-    module _ {b : Budget} (p : b ≡ searched w) {x : Billed} (g : ran x ≡ cost (s .counts .keys - low) b) where
-      pub keep-unpaid : {y : Stop} {b′ : Budget} {s′ : Store} → x ≡ bill.Stopped y b′ → s′ ≡ withBudget b′ s → Keeps k s n c o (Refused (Limit y) s′) n c o
-      unfolding keep settle _>>_ _>>=_ after through mapped
-      keep-unpaid f q = record { is = rw (q, ← ended, e, ← p, ← g, f) }
-
-      pub keep-new : {b′ : Budget} {u s′ : Store} {n′ c′ o′ : List ℕ} → x ≡ bill.Paid b′ → u ≡ withBudget b′ s → Adds k low u n c o s′ n′ c′ o′ → Keeps k s n c o (Id (s .counts .constants) s′) n′ c′ o′
-      unfolding keep settle _>>_ _>>=_ after through mapped
-      keep-new f q a = record { is = rw (← ended, e, ← p, ← g, f) (rw q at (a .is)) }
+    pub keep-new : {a : Answer} {n′ c′ o′ : List ℕ} → Enrolls k low u n c o a n′ c′ o′ → Keeps k s n c o a n′ c′ o′
+    unfolding keep _>>=_ after through mapped
+    keep-new j = record { is = rw (← ended, e) (rw q at (j .is)) }
 
 -- ---- and of `abandon`
 
