@@ -5,11 +5,12 @@ use mathlib.Core.List.{List}
 use lib.IntN.{ℤ}
 use Rattle.limits.specs.Refusal.{Told, told}
 use Rattle.limits.specs.Metered.{Run, going, stopped}
+use Rattle.search.specs.Seek.{absent}
 use Rattle.keys.specs.Key.{Key}
 use Rattle.store.specs.declared.Store.{Store}
 use Rattle.store.specs.declared.Answer.{Answer}
 use Rattle.store.specs.declared.Answer.the-variants.{Id, Refused}
-use Rattle.constants.specs.Constant.{KeyTables, keyTables, Tables, tables, addKey, keep, abandon, retain}
+use Rattle.constants.specs.Constant.{KeyTables, keyTables, Tables, tables, addKey, settle, keep, abandon, retain}
 
 abbrev pub onKeys : Answer → List ℕ → List ℕ → List ℕ → Run Told KeyTables ℕ
 onKeys (Id i s) n c o = going i (keyTables s n c o)
@@ -18,6 +19,10 @@ onKeys (Refused r s) n c o = stopped (told r) (keyTables s n c o)
 -- what is left of a key that is new
 pub record Adds (k : Key) (low : ℕ) (s : Store) (n c o : List ℕ) (s′ : Store) (n′ c′ o′ : List ℕ) : Type 0 where
   pub is : going (s .counts .constants) (keyTables s′ n′ c′ o′) ≡ addKey k low (keyTables s n c o)
+
+-- of one that is not in the key order yet
+pub record Enrolls (k : Key) (low : ℕ) (s : Store) (n c o : List ℕ) (r : Answer) (n′ c′ o′ : List ℕ) : Type 0 where
+  pub is : onKeys r n′ c′ o′ ≡ settle k (s .counts .keys) (absent low) (keyTables s n c o)
 
 -- of one that is kept
 pub record Keeps (k : Key) (s : Store) (n c o : List ℕ) (r : Answer) (n′ c′ o′ : List ℕ) : Type 0 where

@@ -13,13 +13,15 @@ ghost use mathlib.Core.Path.{_≡_};
 ghost use Prim.Native.Nat.{_+_, _≤_};
 ghost use lib.Dec.{leb};
 ghost use lib.ListN.{length};
+ghost use Rattle.limits.specs.declared.Resource.the-variants.{Work};
+ghost use Rattle.limits.specs.Records.{withCount, withStatistics};
 ghost use Rattle.limits.specs.Budget.{ran};
-ghost use Rattle.store.specs.Store.{withConstants, withKeys};
+ghost use Rattle.store.specs.Store.{withBudget, withConstants, withKeys};
 ghost use Rattle.store.specs.Calls.{marks};
 ghost use Rattle.store.specs.Answers.{onMarks};
 ghost use Rattle.keys.specs.Key.{number, name, keyOf, putCells, putName};
 ghost use Rattle.constants.specs.Constant.{bytesOf, retains, kindOf, payloadOf, classify, cost, sizes, spacious, tables, constantCall};
-ghost use Rattle.constants.specs.Answers.{Adds, Keeps, Abandons, Retains, onTables};
+ghost use Rattle.constants.specs.Answers.{Adds, Enrolls, Keeps, Abandons, Retains, onTables};
 
 // The constants that the tables have rows for.
 pub const CONSTANTS: usize = 1024;
@@ -159,6 +161,45 @@ fn add(
     with_key(with_constant(store))
 }
 
+// A key that is not in the key order yet: it is paid for, then added.
+fn enroll(
+    store: Store,
+    low: usize,
+    named: bool,
+    number: i32,
+    text: &[u8],
+    names: &mut [u8],
+    constants: &mut [u32],
+    order: &mut [u32],
+) -> Answer
+    requires { ⌜ (low ≤ store .counts .keys) × ((store .counts .constants ≤ 1024) × ((store .counts .keys ≤ 1024) × (length (bytesOf (keyOf named number (now text))) ≤ 64))) ⌝ }
+    ensures { λ r. ⌜ Enrolls (keyOf named number (now (text .entry))) low store (now (names .entry)) (now (constants .entry)) (now (order .entry)) r (now (names .exit)) (now (constants .exit)) (now (order .exit)) ⌝ }
+{
+    let counts = store.counts;
+    let id = counts.constants;
+    let moved = (counts.keys - low) as u64;
+    match pay(store.budget, moved) {
+        Billed::Stopped(stop, kept) => {
+            Answer::Refused(Refusal::Limit(stop), store.with_budget(kept))
+        }
+        Billed::Paid(paid) => {
+            let ready = store.with_budget(paid);
+            Answer::Id(
+                id,
+                add(ready, low, named, number, text, names, constants, order),
+            )
+        }
+    }
+}
+
+// The same header after a search.
+fn searched(store: Store, work: u64) -> Store
+    ensures { λ r. ⌜ r ≡ withBudget (withStatistics (withCount Work work (store .budget .statistics)) (store .budget)) store ⌝ }
+{
+    let budget = store.budget;
+    store.with_budget(budget.with(Resource::Work, work))
+}
+
 // A retained key: its old id, or a new constant in its place of the key order.
 fn keep(
     store: Store,
@@ -176,7 +217,6 @@ fn keep(
     let limits = budget.limits;
     let statistics = budget.statistics;
     let counts = store.counts;
-    let id = counts.constants;
     match keys::seek_key(
         names,
         constants,
@@ -188,28 +228,14 @@ fn keep(
         statistics.work,
         limits.work,
     ) {
-        Sought::Stopped(stop, work) => {
-            let kept = budget.with(Resource::Work, work);
-            Answer::Refused(Refusal::Limit(stop), store.with_budget(kept))
-        }
+        Sought::Stopped(stop, work) => Answer::Refused(Refusal::Limit(stop), searched(store, work)),
         Sought::Found(i, work) => {
-            let paid = budget.with(Resource::Work, work);
-            Answer::Id(cells::cell_at(order, i) as usize, store.with_budget(paid))
+            let id = cells::cell_at(order, i) as usize;
+            Answer::Id(id, searched(store, work))
         }
         Sought::Absent(low, work) => {
-            let moved = (counts.keys - low) as u64;
-            match pay(budget.with(Resource::Work, work), moved) {
-                Billed::Stopped(stop, kept) => {
-                    Answer::Refused(Refusal::Limit(stop), store.with_budget(kept))
-                }
-                Billed::Paid(paid) => {
-                    let ready = store.with_budget(paid);
-                    Answer::Id(
-                        id,
-                        add(ready, low, named, number, text, names, constants, order),
-                    )
-                }
-            }
+            let ready = searched(store, work);
+            enroll(ready, low, named, number, text, names, constants, order)
         }
     }
 }
