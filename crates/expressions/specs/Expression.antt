@@ -1,5 +1,5 @@
 -- `Input::expression`, on the header and the lent table as they stand.
-use Prim.Native.Nat.{ℕ, zero, suc, _+_, max}
+use Prim.Native.Nat.{ℕ, zero, suc, _+_, _*_, max}
 use mathlib.Core.Bool.{Bool, true, false, cond, _&&_}
 use mathlib.Core.List.{List}
 use lib.Dec.{leb, ltb, eqb}

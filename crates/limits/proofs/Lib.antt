@@ -2,3 +2,4 @@ pub mod CodeLaws
 pub mod Monad
 pub mod Live
 pub mod ChargeLaws
+pub mod Ends
