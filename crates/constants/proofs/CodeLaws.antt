@@ -23,7 +23,7 @@ use Rattle.limits.specs.Records.{withCount, withStatistics}
 use Rattle.limits.specs.Metered.{Run, going, stopped, Metered, after, _>>=_, _>>_, mapped, through, zoom}
 use Rattle.limits.specs.Meter.{meterOf}
 use Rattle.limits.specs.Budget.{work, bytes, links, ran}
-use Rattle.limits.proofs.Monad.{then-on, then-stop}
+use Rattle.limits.proofs.Monad.{then-on, then-stop, through-on, through-stop, through-is, came}
 use Rattle.cells.specs.Cells.{toCell}
 use Rattle.search.specs.declared.Sought.{Sought}
 use Rattle.search.specs.declared.Sought.the-variants.{Found, Absent, Stopped}
@@ -43,35 +43,6 @@ use Rattle.store.specs.Answers.{done, onMarks}
 use Rattle.store.proofs.CodeLaws.{charged-counts}
 use Rattle.constants.specs.Constant.{bytesOf, retains, classify, kindOf, payloadOf, cost, settle, keep, abandon, retain, Tables, tables, inMarks, inKeys, inHeader, sizes, spacious, constantCall}
 use Rattle.constants.specs.Answers.{onKeys, Adds, Enrolls, Keeps, Abandons, Retains, onTables}
-
--- ---- m on a part of the state (`through`, and so `zoom` and `stopping`)
-
-module _ {E F S T A : Type 0} (get : S → T) (kept left : S → T → S) (tell : E → F) (m : Metered E T A) (s : S) where
-  through-on : {a : A} {t : T} → going a t ≡ m (get s) → going a (kept s t) ≡ through get kept left tell m s
-  unfolding through mapped
-  through-on h = rw (← h)
-
-  through-stop : {e : E} {t : T} → stopped e t ≡ m (get s) → stopped (tell e) (left s t) ≡ through get kept left tell m s
-  unfolding through mapped
-  through-stop h = rw (← h)
-
-  through-is : {x : Run E T A} → x ≡ m (get s) → mapped (kept s) (left s) tell x ≡ through get kept left tell m s
-  unfolding through
-  through-is h = ap (mapped (kept s) (left s) tell) h
-
-  -- where it completes, m did
-  record Came (a : A) (u : S) : Type 0 where
-    part : T
-    from : going a part ≡ m (get s)
-    is : u ≡ kept s part
-
-  came : {a : A} {u : S} → going a u ≡ through get kept left tell m s → Came a u
-  unfolding through mapped
-  came {a} {u} = go (m (get s)) refl
-    where
-      go : (x : Run E T A) → m (get s) ≡ x → going a u ≡ mapped (kept s) (left s) tell x → Came a u
-      go (going b t) e h = record { part = t; from = cc; is = cc }
-      go (stopped y t) e h = let z : _≡_ {A = ℕ} 0 1 = cc in absurd (omega arith)
 
 -- ---- refusals 1 and 2
 

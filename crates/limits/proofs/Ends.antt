@@ -60,10 +60,9 @@ module _ {E S A B : Type 0} {P : A → S → Type 0} {Q : E → S → Type 0} {R
 module _ {E F S T A : Type 0} (get : S → T) (kept left : S → T → S) (tell : E → F) {P : A → T → Type 0} {Q : E → T → Type 0} {R : A → S → Type 0} {U : F → S → Type 0} where
   pub ends-through : (m : Metered E T A) (s : S) → Ends P Q (m (get s)) → ((a : A) (t : T) → P a t → R a (kept s t)) → ((e : E) (t : T) → Q e t → U (tell e) (left s t)) →
       Ends R U (through get kept left tell m s)
-  unfolding through
+  unfolding through mapped
   ends-through m s h f g = go h
     where
       go : {x : Run E T A} → Ends P Q x → Ends R U (mapped (kept s) (left s) tell x)
-      unfolding mapped
       go (completes k) = completes (f _ _ k)
       go (stops k) = stops (g _ _ k)

@@ -1,5 +1,7 @@
 -- Metered computations: the laws of the monad; `Ensures`, what holds of the value where one completes; `Steady`, the same value from any two states.
-use mathlib.Core.Path.{_≡_, refl, subst}
+use Prim.Native.Nat.{ℕ}
+use native.Mathlib.Omega.{arith}
+use mathlib.Core.Path.{_≡_, refl, ap, subst}
 use mathlib.Core.Bool.{Bool, true, false, cond}
 use mathlib.Core.List.{List, [], _∷_, _++_, List·Memᴰ, List·Memᴰ·head, List·Memᴰ·tail}
 use Rattle.integers.specs.Lists.{All}
@@ -76,6 +78,24 @@ module _ {E F S T A : Type 0} (get : S → T) (kept left : S → T → S) (tell 
   pub through-stop : {e : E} {t : T} → stopped e t ≡ m (get s) → stopped (tell e) (left s t) ≡ through get kept left tell m s
   unfolding through mapped
   through-stop h = rw (← h)
+
+  pub through-is : {x : Run E T A} → x ≡ m (get s) → mapped (kept s) (left s) tell x ≡ through get kept left tell m s
+  unfolding through
+  through-is h = ap (mapped (kept s) (left s) tell) h
+
+  -- where it completes, m did
+  pub record Came (a : A) (u : S) : Type 0 where
+    pub part : T
+    pub from : going a part ≡ m (get s)
+    pub is : u ≡ kept s part
+
+  pub came : {a : A} {u : S} → going a u ≡ through get kept left tell m s → Came a u
+  unfolding through mapped
+  came {a} {u} = go (m (get s)) refl
+    where
+      go : (x : Run E T A) → m (get s) ≡ x → going a u ≡ mapped (kept s) (left s) tell x → Came a u
+      go (going b t) e h = record { part = t; from = cc; is = cc }
+      go (stopped y t) e h = let z : _≡_ {A = ℕ} 0 1 = cc in absurd (omega arith)
 
 module _ {E S A : Type 0} where
   pub pure-is : (a : A) (s : S) → _≡_ {A = Run E S A} (going a s) (pure a s)
