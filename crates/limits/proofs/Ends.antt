@@ -2,7 +2,6 @@
 -- a call leaves, whichever way it ends, is said with it.
 use mathlib.Core.Path.{_≡_, refl}
 use mathlib.Core.Bool.{Bool, true, false, cond}
-use mathlib.Core.List.{List, [], _∷_}
 use Rattle.limits.specs.Metered.{Run, going, stopped, Metered, pure, halt, after, _>>=_, _>>_, mapped, through}
 
 pub data Ends {E S A : Type 0} (P : A → S → Type 0) (Q : E → S → Type 0) : Run E S A → Type 0 where

@@ -1,58 +1,42 @@
+-- `store::Store::enter_around` meets its contract.
 use mir.Facts.{toZ-ofZ}
 use Rattle.thresholds.specs.Thresholds.{around}
 use Rattle.thresholds.proofs.CodeLaws.{went, halted}
 use Rattle.store.proofs.CodeLaws.{entering-done, entering-stopped}
 use borrow.Author.Needs.{needs}
-use native.Mathlib.Omega.{arith}
 use Rattle.store.proofs.Store.enter_around.Statement.{statement}
 use Rattle.store.proofs.Store.enter_around.Tie as tie
-use Rattle.store.proofs.Store.enter_around.Reads as reads
-use Rattle.store.proofs.Store.enter_around.Lts as lts
-use Rattle.store.proofs.Store.with_budget.Reads as with-budget-reads
-use Rattle.store.proofs.Store.with_thresholds.Reads as with-thresholds-reads
-use Rattle.thresholds.proofs.enter_around.Reads as enter-around-reads
 
--- src/lib.rt:235:15
 enter-around-requires : tie.Need-enter-around-requires
 enter-around-requires c κs = search needs
 
--- src/lib.rt:236:27
 enum-known-paid : tie.Need-enum-known-paid
 enum-known-paid c = search needs
 
--- src/lib.rt:237:21
 with-budget-requires : tie.Need-with-budget-requires
 with-budget-requires c κs = search needs
 
--- src/lib.rt:238:26
 with-thresholds-requires : tie.Need-with-thresholds-requires
 with-thresholds-requires c κs = search needs
 
--- src/lib.rt:240:30
 enum-known-stop : tie.Need-enum-known-stop
 enum-known-stop c = search needs
 
--- src/lib.rt:241:21
 with-budget-requires-2 : tie.Need-with-budget-requires-2
 with-budget-requires-2 c κs = search needs
 
--- src/lib.rt:242:53
 with-thresholds-requires-2 : tie.Need-with-thresholds-requires-2
 with-thresholds-requires-2 c κs = search needs
 
--- src/lib.rt:229:5
 same-length : tie.Need-same-length
 same-length c = search needs
 
--- src/lib.rt:229:5
 returns : tie.Need-returns
 returns c = entering-done (around (c .before .before .before .before .before .before .before .before .before .before .args .value)) (c .before .before .before .before .before .before .before .before .before .before .args .self) (c .before .before .before .before .before .before .before .before .before .before .args .table .now) (c .before .with-budget .ensures) (c .with-thresholds .ensures) (went (c .before .before .before .paid .given .1) (rw (toZ-ofZ (c .before .before .before .before .before .before .before .before .before .before .fits .value)) at (c .before .before .before .before .before .before .enter-around .ensures)))
 
--- src/lib.rt:229:5
 same-length-2 : tie.Need-same-length-2
 same-length-2 c = search needs
 
--- src/lib.rt:229:5
 returns-2 : tie.Need-returns-2
 returns-2 c = entering-stopped (around (c .before .before .before .before .before .before .before .before .before .before .args .value)) (c .before .before .before .before .before .before .before .before .before .before .args .self) (c .before .before .before .before .before .before .before .before .before .before .args .table .now) (c .before .with-budget2 .ensures) (c .with-thresholds2 .ensures) (halted (c .before .before .before .stop .given .1) (rw (toZ-ofZ (c .before .before .before .before .before .before .before .before .before .before .fits .value)) at (c .before .before .before .before .before .before .enter-around .ensures)))
 
