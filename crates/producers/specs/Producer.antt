@@ -4,6 +4,8 @@ use mathlib.Core.Bool.{Bool, _&&_}
 use mathlib.Core.List.{List, [], _∷_}
 use lib.Dec.{leb, ltb, eqb}
 use lib.ListN.{length}
+use Rattle.limits.specs.declared.Stop.{Stop}
+use Rattle.limits.specs.declared.Budget.{Budget}
 use Rattle.limits.specs.declared.Refusal.the-variants.{Closed, Shape, Full, Limit, Missing, MissingSlot}
 use Rattle.limits.specs.Refusal.{Told, told}
 use Rattle.limits.specs.Metered.{going, Metered, pure, _>>_, zoom, stopping}
@@ -13,7 +15,7 @@ use Rattle.limits.specs.Budget.{work, links}
 use Rattle.nodes.specs.declared.Expression.{Expression}
 use Rattle.nodes.specs.declared.Expression.the-variants.{Constant, Slot, Unary, Absolute, Binary, Unknown}
 use Rattle.nodes.specs.Node.{expressionAt}
-use Rattle.nodes.specs.Node as nodes
+use Rattle.nodes.specs.Node as expressions
 use Rattle.rules.specs.declared.Binding.{Binding}
 use Rattle.rules.specs.declared.Binding.the-variants.{Positive, Assign, Range, Aggregate}
 use Rattle.rules.specs.declared.Guard.{Guard}
@@ -87,8 +89,11 @@ checking = zoom (λ s. meterOf (s .budget)) (λ m s. withBudget (withMeter m (s 
 abbrev pub inStore : {A : Type 0} → Metered Told Store A → Metered Told Records A
 inStore = zoom (λ t. t .header) (λ s t. records s (t .table))
 
+unfoldable pub checkValue : Scope → ℕ → Metered Told Meter (Unit {0})
+checkValue s id = step >> checkExpression s id
+
 unfoldable pub checkHead : Scope → Head → Metered Told Records (Unit {0})
-checkHead s h = inStore (checking (step >> checkExpression s (h .value))) >> provenance (h .argument)
+checkHead s h = inStore (checking (checkValue s (h .value))) >> provenance (h .argument)
 
 unfoldable pub checkHeads : Scope → List Head → Metered Told Records (Unit {0})
 checkHeads s [] = pure tt
@@ -116,16 +121,16 @@ shapely r =
     leb (r .slots) 16 && (leb (r .lengths .bindings) 32 && (leb (r .lengths .guards) 32 && (leb (r .lengths .heads) 16 && eqb (r .lengths .queries) 0)))
 
 abbrev pub sizes : ℕ → ℕ → ℕ → Bool
-sizes nodes rules records = eqb nodes (nodes.row * 1024) && (eqb rules (row * 256) && eqb records 2048)
+sizes nodes rules records = eqb nodes (expressions.row * 1024) && (eqb rules (row * 256) && eqb records 2048)
 
 -- refusal 2; more rows than the tables have meet it as well
 abbrev pub spacious : Store → Bool
 spacious s =
     ltb (s .counts .rules) 256 && (leb (s .counts .expressions) 1024 && (leb (s .counts .positions) 256 && recordable (s .context) (s .counts .provenance)))
 
--- the sum of links that a rule charges first
-abbrev pub linksOf : Rule → ℕ
-linksOf r = r .slots + r .lengths .bindings + r .lengths .guards + r .lengths .heads + 1
+-- a unit of work, then one charge for all its links
+unfoldable pub cost : Rule → Metered Stop Budget (Unit {0})
+cost r = work 1 >> links (r .slots + r .lengths .bindings + r .lengths .guards + r .lengths .heads + 1)
 
 abbrev pub scopeOf : List ℕ → Store → Rule → Scope
 scopeOf n s r = scope n (s .counts .expressions) (r .slots)
@@ -150,4 +155,4 @@ ruleCall nodes r =
     (unless (λ t. shapely r) Shape
     (unless (λ t. open? (t .header)) Closed
     (unless (λ t. spacious (t .header)) Full
-    (inHeader (charged (work 1 >> links (linksOf r))) >> inRecords (checkRule nodes r) >> addRule r))))
+    (inHeader (charged (cost r)) >> inRecords (checkRule nodes r) >> addRule r))))

@@ -16,14 +16,12 @@ use store::Store;
 ghost use mathlib.Core.Path.{_≡_};
 ghost use Prim.Native.Nat.{_+_, _≤_, _<_};
 ghost use lib.ListN.{take};
-ghost use Rattle.limits.specs.Metered.{_>>_};
-ghost use Rattle.limits.specs.Budget.{work, links};
 ghost use mathlib.Core.Bool.{true};
 ghost use Rattle.store.specs.Store.{withRules};
 ghost use Rattle.store.specs.Calls.{charged};
 ghost use Rattle.store.specs.Answers.{done};
 ghost use Rattle.provenance.specs.Provenance.{Room};
-ghost use Rattle.producers.specs.Producer.{scope, each, slotIn, checkExpression, checkPair, checkBinding, checkGuard, checkBody, checkHead, checkHeads, checkRule, shapely, sizes, spacious, linksOf, tables, ruleCall};
+ghost use Rattle.producers.specs.Producer.{scope, each, slotIn, checkExpression, checkPair, checkBinding, checkGuard, checkBody, checkValue, checkHead, checkHeads, checkRule, shapely, sizes, spacious, cost, tables, ruleCall};
 ghost use Rattle.producers.specs.Answers.{Checks, Asks, checkedIn, Leaves, onTables};
 
 // What a check makes of the work.
@@ -301,31 +299,49 @@ fn with_checked(store: Store, checked: Checked) -> Done
     }
 }
 
-// A head: its expression, then its argument, which is recorded at once.
-fn check_head(store: Store, nodes: &[u64], slots: u64, head: Head, records: &mut [u32]) -> Done
-    requires { ⌜ (store .counts .positions ≤ 256) × Room 1 (store .context) (store .counts .provenance) ⌝ }
-    ensures { λ r. ⌜ Leaves (checkHead (scope (now (nodes .entry)) (store .counts .expressions) slots) head) store (now (records .entry)) r (now (records .exit)) ⌝ }
+// A unit of work, and then an expression.
+fn check_value(
+    nodes: &[u64],
+    expressions: usize,
+    slots: u64,
+    id: u64,
+    work: u64,
+    max_work: u64,
+) -> Checked
+    ensures { λ r. ⌜ Checks (checkValue (scope (now (nodes .entry)) expressions slots) id) work «max_work» r ⌝ }
 {
-    let counts = store.counts;
-    match store.charge(Resource::Work, 1) {
+    match limits::charge(Resource::Work, work, 1, max_work) {
+        Charged::Stopped(stop, now) => Checked::Refused(Refusal::Limit(stop), now),
+        Charged::Paid(now) => check_expression(nodes, expressions, slots, id, now, max_work),
+    }
+}
+
+// A head: its expression, then its argument, which is recorded at once.
+fn check_head(
+    store: Store,
+    nodes: &[u64],
+    expressions: usize,
+    slots: u64,
+    head: Head,
+    records: &mut [u32],
+) -> Done
+    requires { ⌜ (store .counts .positions ≤ 256) × Room 1 (store .context) (store .counts .provenance) ⌝ }
+    ensures { λ r. ⌜ Leaves (checkHead (scope (now (nodes .entry)) expressions slots) head) store (now (records .entry)) r (now (records .exit)) ⌝ }
+{
+    let budget = store.budget;
+    let limits = budget.limits;
+    let statistics = budget.statistics;
+    let checked = check_value(
+        nodes,
+        expressions,
+        slots,
+        head.value,
+        statistics.work,
+        limits.work,
+    );
+    match with_checked(store, checked) {
         Done::Refused(refusal, kept) => Done::Refused(refusal, kept),
-        Done::Ok(paid) => {
-            let budget = paid.budget;
-            let limits = budget.limits;
-            let statistics = budget.statistics;
-            let checked = check_expression(
-                nodes,
-                counts.expressions,
-                slots,
-                head.value,
-                statistics.work,
-                limits.work,
-            );
-            match with_checked(paid, checked) {
-                Done::Refused(refusal, kept) => Done::Refused(refusal, kept),
-                Done::Ok(passed) => provenance::provenance(passed, head.argument, records),
-            }
-        }
+        Done::Ok(passed) => provenance::provenance(passed, head.argument, records),
     }
 }
 
@@ -333,18 +349,19 @@ fn check_head(store: Store, nodes: &[u64], slots: u64, head: Head, records: &mut
 fn check_heads(
     store: Store,
     nodes: &[u64],
+    expressions: usize,
     slots: u64,
     heads: [Head; 16],
     count: usize,
     records: &mut [u32],
 ) -> Done
-    requires { ⌜ (count ≤ 16) × ((store .counts .positions ≤ 256) × Room 16 (store .context) (store .counts .provenance)) ⌝ }
-    ensures { λ r. ⌜ Leaves (checkHeads (scope (now (nodes .entry)) (store .counts .expressions) slots) (take count heads)) store (now (records .entry)) r (now (records .exit)) ⌝ }
+    requires { ⌜ (count ≤ 16) × ((store .counts .positions ≤ 256) × Room count (store .context) (store .counts .provenance)) ⌝ }
+    ensures { λ r. ⌜ Leaves (checkHeads (scope (now (nodes .entry)) expressions slots) (take count heads)) store (now (records .entry)) r (now (records .exit)) ⌝ }
 {
     let mut i: usize = 0;
     let mut left = store;
     while i < count {
-        match check_head(left, nodes, slots, heads[i], records) {
+        match check_head(left, nodes, expressions, slots, heads[i], records) {
             Done::Refused(refusal, kept) => {
                 return Done::Refused(refusal, kept);
             }
@@ -411,7 +428,7 @@ fn room(store: Store) -> bool
 // What a rule charges before it is looked at: a unit of work, and all its links at once.
 fn charge_rule(store: Store, rule: Rule) -> Done
     requires { ⌜ shapely rule ≡ true ⌝ }
-    ensures { λ r. ⌜ done r ≡ charged (work 1 >> links (linksOf rule)) store ⌝ }
+    ensures { λ r. ⌜ done r ≡ charged (cost rule) store ⌝ }
 {
     let lengths = rule.lengths;
     let sum = rule.slots + lengths.bindings + lengths.guards + lengths.heads + 1;
@@ -455,6 +472,7 @@ fn check_rule(store: Store, nodes: &[u64], rule: Rule, records: &mut [u32]) -> D
         Done::Ok(passed) => check_heads(
             passed,
             nodes,
+            counts.expressions,
             rule.slots,
             heads,
             lengths.heads as usize,

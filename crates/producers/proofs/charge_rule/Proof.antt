@@ -1,0 +1,62 @@
+use borrow.Author.Needs.{needs}
+use native.Mathlib.Omega.{arith}
+use Rattle.producers.proofs.charge_rule.Statement.{statement}
+use Rattle.producers.proofs.charge_rule.Tie as tie
+use Rattle.producers.proofs.charge_rule.Reads as reads
+use Rattle.producers.proofs.charge_rule.Lts as lts
+use Rattle.store.proofs.Store.charge.Reads as charge-reads
+
+-- src/lib.rt:415:15
+add-sum : tie.Need-add-sum
+add-sum c = search needs
+
+-- src/lib.rt:415:15
+add-sum-2 : tie.Need-add-sum-2
+add-sum-2 c = search needs
+
+-- src/lib.rt:415:15
+add-sum-3 : tie.Need-add-sum-3
+add-sum-3 c = search needs
+
+-- src/lib.rt:415:15
+add-sum-4 : tie.Need-add-sum-4
+add-sum-4 c = search needs
+
+-- src/lib.rt:416:11
+charge-requires : tie.Need-charge-requires
+charge-requires c κs = search needs
+
+-- src/lib.rt:417:23
+enum-known-refusal : tie.Need-enum-known-refusal
+enum-known-refusal c = search needs
+
+-- src/lib.rt:418:18
+enum-known-paid : tie.Need-enum-known-paid
+enum-known-paid c = search needs
+
+-- src/lib.rt:418:27
+charge-requires-2 : tie.Need-charge-requires-2
+charge-requires-2 c κs = search needs
+
+-- src/lib.rt:410:1
+returns : tie.Need-returns
+returns c = search needs
+
+-- src/lib.rt:410:1
+returns-2 : tie.Need-returns-2
+returns-2 c = search needs
+
+pub charge-rule-spec : {M : Type 1} → statement M
+charge-rule-spec =
+    tie.close
+    (tie.spec
+    add-sum
+    add-sum-2
+    add-sum-3
+    add-sum-4
+    charge-requires
+    enum-known-refusal
+    enum-known-paid
+    charge-requires-2
+    returns
+    returns-2)

@@ -1,0 +1,17 @@
+use borrow.Author.Needs.{needs}
+use native.Mathlib.Omega.{arith}
+use Rattle.producers.proofs.check_slot.Statement.{statement}
+use Rattle.producers.proofs.check_slot.Tie as tie
+use Rattle.producers.proofs.check_slot.Reads as reads
+use Rattle.producers.proofs.check_slot.Lts as lts
+
+-- src/lib.rt:37:9
+returns : tie.Need-returns
+returns c = search needs
+
+-- src/lib.rt:33:1
+returns-2 : tie.Need-returns-2
+returns-2 c = search needs
+
+pub check-slot-spec : {M : Type 1} → statement M
+check-slot-spec = tie.close (tie.spec returns returns-2)

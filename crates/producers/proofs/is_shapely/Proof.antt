@@ -1,0 +1,29 @@
+use borrow.Author.Needs.{needs}
+use native.Mathlib.Omega.{arith}
+use Rattle.producers.proofs.is_shapely.Statement.{statement}
+use Rattle.producers.proofs.is_shapely.Tie as tie
+use Rattle.producers.proofs.is_shapely.Reads as reads
+use Rattle.producers.proofs.is_shapely.Lts as lts
+
+-- src/lib.rt:364:9
+returns : tie.Need-returns
+returns c = search needs
+
+-- src/lib.rt:367:9
+returns-2 : tie.Need-returns-2
+returns-2 c = search needs
+
+-- src/lib.rt:370:9
+returns-3 : tie.Need-returns-3
+returns-3 c = search needs
+
+-- src/lib.rt:373:9
+returns-4 : tie.Need-returns-4
+returns-4 c = search needs
+
+-- src/lib.rt:359:1
+returns-5 : tie.Need-returns-5
+returns-5 c = search needs
+
+pub is-shapely-spec : {M : Type 1} → statement M
+is-shapely-spec = tie.close (tie.spec returns returns-2 returns-3 returns-4 returns-5)
