@@ -1,10 +1,13 @@
 -- The examples of 01 that are proved, one row each: a computation, and what it gives.
-use Prim.Native.Nat.{ℕ}
+use Prim.Native.Nat.{ℕ, _*_}
 use mathlib.Core.Path.{_≡_}
 use mathlib.Core.List.{List, [], _∷_}
 use mathlib.Core.Option.{Option, some, none}
 use lib.IntN.{pos}
+use lib.ListN.{replicate}
+use Rattle.limits.specs.declared.Limits.{Limits}
 use Rattle.limits.specs.declared.Stop.{Stop}
+use Rattle.limits.specs.Refusal.{Told}
 use Rattle.limits.specs.Metered.{Run, going, stopped, Metered}
 use Rattle.limits.specs.Meter.{Meter, meter}
 use Rattle.interval.specs.declared.Interval.{Interval}
@@ -15,6 +18,11 @@ use Rattle.lattice.specs.declared.Widening.the-variants.{ValueWidth}
 use Rattle.lattice.specs.declared.Reason.the-variants.{None, Some}
 use Rattle.lattice.specs.Value.{Value, value}
 use Rattle.lattice.specs.Lattice.{join}
+use Rattle.rows.specs.Row.{row}
+use Rattle.store.specs.declared.Phase.the-variants.{Open}
+use Rattle.store.specs.Store.{withPredicate, empty}
+use Rattle.store.specs.Calls.{bottoms}
+use Rattle.seeds.specs.Seed.{IntervalTables, intervalTables, seedIntervalCall}
 
 infix 5 _is_
 pub data Example : Type 1 where
@@ -47,6 +55,28 @@ completed (stopped e m) = none
 abbrev pub run : {A : Type 0} → Metered Stop Meter A → Option A
 run c = completed (c (meter 0 1000 0 1000))
 
+abbrev pub ample : Limits
+ample = record { work = 1000; predicates = 1000; positions = 1000; links = 1000; width = 4; entries = 1000; rounds = 1000; bytes = 1000; symbol = 64 }
+
+-- an open store with ample limits and one argument that nothing is seeded to; all else in the tables is 0
+abbrev pub opened : IntervalTables
+opened = intervalTables (withPredicate 1 (empty ample Open)) (bottoms (replicate (row * 256) 0) 0 1) (replicate 2048 0) (replicate 4096 (pos 0))
+
+-- what a call is turned down with, if it is
+abbrev pub turnedDown : {S A : Type 0} → Run Told S A → Option Told
+turnedDown (going a s) = none
+turnedDown (stopped e s) = some e
+
+-- low..high is seeded to that argument
+abbrev pub seeding : ℕ → ℕ → Option Told
+seeding low high = turnedDown (seedIntervalCall 0 (pos low) (pos high) opened)
+
+abbrev pub accepted : Option Told
+accepted = none
+
+abbrev pub refusedBy : ℕ → Option Told
+refusedBy n = some record { number = n; values = [] }
+
 -- ---- the table
 
 abbrev pub table : List Example
@@ -61,4 +91,8 @@ table =
     (run (join 2 (listed (1 ∷ 3 ∷ [])) (listed (3 ∷ []))) is some (listed (1 ∷ 3 ∷ []))) ∷
     -- K5 "{1,3} and {5}, width 2: none, ValueWidth"
     (run (join 2 (listed (1 ∷ 3 ∷ [])) (listed (5 ∷ []))) is some (value topOf none (Some ValueWidth))) ∷
+    -- K6 "seed 3..3 accepted"
+    (seeding 3 3 is accepted) ∷
+    -- K7 "4..3 refused by 5"
+    (seeding 4 3 is refusedBy 5) ∷
     []

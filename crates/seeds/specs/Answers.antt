@@ -6,7 +6,7 @@ use lib.IntN.{ℤ}
 use Rattle.limits.specs.declared.Stop.{Stop}
 use Rattle.limits.specs.declared.Budget.{Budget}
 use Rattle.limits.specs.Refusal.{Told, told}
-use Rattle.limits.specs.Metered.{Run, going, stopped, Metered, _>>=_, _>>_}
+use Rattle.limits.specs.Metered.{Run, going, stopped, Metered, _>>_}
 use Rattle.lattice.specs.declared.Outcome.{Outcome}
 use Rattle.lattice.specs.declared.Outcome.the-variants.{Done, Stopped}
 use Rattle.lattice.specs.Value.{Value, valueOf}

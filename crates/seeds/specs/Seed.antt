@@ -9,9 +9,9 @@ use lib.Signed.{leZ}
 use lib.ListN.{length}
 use Rattle.limits.specs.declared.Stop.{Stop}
 use Rattle.limits.specs.declared.Budget.{Budget}
-use Rattle.limits.specs.declared.Refusal.the-variants.{Closed, Shape, Full, Limit, Missing, Descending}
-use Rattle.limits.specs.Refusal.{Told, told}
-use Rattle.limits.specs.Metered.{going, Metered, pure, _>>=_, _>>_, zoom, stopping}
+use Rattle.limits.specs.declared.Refusal.the-variants.{Closed, Shape, Full, Missing, Descending}
+use Rattle.limits.specs.Refusal.{Told}
+use Rattle.limits.specs.Metered.{going, Metered, _>>=_, _>>_, zoom}
 use Rattle.limits.specs.Meter.{metered, holding}
 use Rattle.limits.specs.Budget.{work, released, widenedOnce}
 use Rattle.interval.specs.declared.Interval.the-variants.{Bounded}
@@ -20,11 +20,8 @@ use Rattle.lattice.specs.Constants.{constantAt}
 use Rattle.lattice.specs.Lattice.{constant, numeric, join}
 use Rattle.rows.specs.Row.{row, listOf, valueAt, put}
 use Rattle.thresholds.specs.Thresholds.{around}
-use Rattle.store.specs.declared.Context.{Context}
-use Rattle.store.specs.declared.Counts.{Counts}
 use Rattle.store.specs.declared.Store.{Store}
-use Rattle.store.specs.Store.{withBudget}
-use Rattle.store.specs.Calls.{unless, open?, charged, Marks, marks, entering}
+use Rattle.store.specs.Calls.{unless, open?, charged, marks, entering}
 use Rattle.provenance.specs.Provenance.{Records, records, provenance, recordable}
 
 -- ---- a seed
@@ -93,6 +90,10 @@ inRows = zoom (λ t. rows (t .header) (t .seeds)) (λ r t. tables (r .header) (r
 unfoldable pub constantValue : List ℕ → ℕ → Metered Stop Budget Value
 constantValue constants k b = metered (constant k (constantAt constants k) (b .limits .width)) b
 
+-- a constant becomes part of a seed
+abbrev pub seedConstant : List ℕ → ℕ → ℕ → Metered Told Rows (Unit {0})
+seedConstant constants a k = paying (constantValue constants k) >>= seed a
+
 unfoldable pub seedValueCall : List ℕ → ℕ → ℕ → Metered Told Tables (Unit {0})
 seedValueCall constants a k =
     unless (λ t. eqb (length constants) 2048 && sizes (length (t .seeds)) (length (t .records))) Shape
@@ -100,7 +101,7 @@ seedValueCall constants a k =
     (unless (λ t. leb (t .header .counts .constants) 1024 && spacious (t .header)) Full
     (inHeader (charged (work 1)) >>
     unless (λ t. ltb k (t .header .counts .constants)) Missing
-    (inRecords (provenance a) >> inRows (paying (constantValue constants k) >>= seed a)))))
+    (inRecords (provenance a) >> inRows (seedConstant constants a k)))))
 
 -- ---- `seed_interval`
 

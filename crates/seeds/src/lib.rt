@@ -9,13 +9,11 @@ use limits::Resource;
 use store::Done;
 use store::Store;
 ghost use mathlib.Core.Path.{_≡_};
-ghost use mathlib.Core.Option.{some, none};
-ghost use Prim.Native.Nat.{_+_, _≤_, _<_};
+ghost use Prim.Native.Nat.{_+_, _≤_};
 ghost use lib.ListN.{length};
-ghost use Rattle.limits.specs.Metered.{_>>=_};
 ghost use Rattle.limits.specs.Meter.{meter, withMeter};
 ghost use Rattle.lattice.specs.Value.{valueOf};
-ghost use Rattle.seeds.specs.Seed.{entriesOf, loses, dropped, joined, seed, paying, constantValue, sizes, spacious, tables, intervalTables, seedValueCall, seedIntervalCall};
+ghost use Rattle.seeds.specs.Seed.{entriesOf, loses, dropped, joined, seed, constantValue, seedConstant, sizes, spacious, tables, intervalTables, seedValueCall, seedIntervalCall};
 ghost use Rattle.seeds.specs.Answers.{Makes, Seeds, Marked, SeedsEnds, onTables, onIntervalTables};
 
 // A value with the budget after it. Where the outcome is a stop there is no value, and the field means nothing.
@@ -150,7 +148,7 @@ fn seed_constant(
     constants: &[u32],
     seeds: &mut [u32],
 ) -> Done
-    ensures { λ r. ⌜ Seeds (paying (constantValue (now (constants .entry)) id) >>= seed argument) store (now (seeds .entry)) r (now (seeds .exit)) ⌝ }
+    ensures { λ r. ⌜ Seeds (seedConstant (now (constants .entry)) argument id) store (now (seeds .entry)) r (now (seeds .exit)) ⌝ }
 {
     let made = constant_value(constants, id, store.budget);
     let outcome = made.outcome;

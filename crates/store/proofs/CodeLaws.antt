@@ -177,6 +177,15 @@ charged-counts m s {t} = go (m (s .budget))
     go (going u b) h = let e : t ≡ withBudget b s = cc in rw e
     go (stopped e b) h = let z : _≡_ {A = ℕ} 0 1 = cc in absurd (omega arith)
 
+-- and the context
+pub charged-context : (m : Metered Stop Budget (Unit {0})) (s : Store) {t : Store} → going tt t ≡ charged m s → t .context ≡ s .context
+unfolding through mapped
+charged-context m s {t} = go (m (s .budget))
+  where
+    go : (x : Run Stop Budget (Unit {0})) → going tt t ≡ mapped (λ u. u) (λ u. u) (λ e. told (Limit e)) (mapped (λ b. withBudget b s) (λ b. withBudget b s) (λ e. e) x) → t .context ≡ s .context
+    go (going u b) h = let e : t ≡ withBudget b s = cc in rw e
+    go (stopped e b) h = let z : _≡_ {A = ℕ} 0 1 = cc in absurd (omega arith)
+
 -- a step on the header, with the tables beside it
 module _ (m : Metered Told Store (Unit {0})) (s : Store) {rows seeds : List ℕ} where
   zoomed-on : {u : Store} → going tt u ≡ m s → going tt (tables u rows seeds) ≡ inHeader m (tables s rows seeds)
