@@ -40,11 +40,11 @@ charge-requires-2 c κs = search needs
 
 -- src/lib.rt:410:1
 returns : tie.Need-returns
-returns c = search needs
+returns c = ?
 
 -- src/lib.rt:410:1
 returns-2 : tie.Need-returns-2
-returns-2 c = search needs
+returns-2 c = ?
 
 pub charge-rule-spec : {M : Type 1} → statement M
 charge-rule-spec =

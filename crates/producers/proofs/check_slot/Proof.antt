@@ -1,3 +1,4 @@
+use Rattle.producers.proofs.CodeLaws.{slot-missing, slot-there}
 use borrow.Author.Needs.{needs}
 use native.Mathlib.Omega.{arith}
 use Rattle.producers.proofs.check_slot.Statement.{statement}
@@ -7,11 +8,11 @@ use Rattle.producers.proofs.check_slot.Lts as lts
 
 -- src/lib.rt:37:9
 returns : tie.Need-returns
-returns c = search needs
+returns c = slot-missing (c .before .args .slots) (c .before .args .slot) (c .before .args .work) (c .if1 .taken)
 
 -- src/lib.rt:33:1
 returns-2 : tie.Need-returns-2
-returns-2 c = search needs
+returns-2 c = slot-there (c .before .args .slots) (c .before .args .slot) (c .before .args .work) (c .if1 .left)
 
 pub check-slot-spec : {M : Type 1} → statement M
 check-slot-spec = tie.close (tie.spec returns returns-2)

@@ -7,23 +7,23 @@ use Rattle.producers.proofs.is_shapely.Lts as lts
 
 -- src/lib.rt:364:9
 returns : tie.Need-returns
-returns c = search needs
+returns c = ?
 
 -- src/lib.rt:367:9
 returns-2 : tie.Need-returns-2
-returns-2 c = search needs
+returns-2 c = ?
 
 -- src/lib.rt:370:9
 returns-3 : tie.Need-returns-3
-returns-3 c = search needs
+returns-3 c = ?
 
 -- src/lib.rt:373:9
 returns-4 : tie.Need-returns-4
-returns-4 c = search needs
+returns-4 c = ?
 
 -- src/lib.rt:359:1
 returns-5 : tie.Need-returns-5
-returns-5 c = search needs
+returns-5 c = ?
 
 pub is-shapely-spec : {M : Type 1} → statement M
 is-shapely-spec = tie.close (tie.spec returns returns-2 returns-3 returns-4 returns-5)

@@ -8,15 +8,15 @@ use Rattle.provenance.proofs.is_recordable.Reads as is-recordable-reads
 
 -- src/lib.rt:398:9
 returns : tie.Need-returns
-returns c = search needs
+returns c = ?
 
 -- src/lib.rt:401:9
 returns-2 : tie.Need-returns-2
-returns-2 c = search needs
+returns-2 c = ?
 
 -- src/lib.rt:404:9
 returns-3 : tie.Need-returns-3
-returns-3 c = search needs
+returns-3 c = ?
 
 -- src/lib.rt:406:5
 is-recordable-requires : tie.Need-is-recordable-requires
@@ -24,7 +24,7 @@ is-recordable-requires c κs = search needs
 
 -- src/lib.rt:392:1
 returns-4 : tie.Need-returns-4
-returns-4 c = search needs
+returns-4 c = ?
 
 pub room-spec : {M : Type 1} → statement M
 room-spec = tie.close (tie.spec returns returns-2 returns-3 is-recordable-requires returns-4)

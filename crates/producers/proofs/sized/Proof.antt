@@ -11,7 +11,7 @@ mul-if1 c = search needs
 
 -- src/lib.rt:383:9
 returns : tie.Need-returns
-returns c = search needs
+returns c = ?
 
 -- src/lib.rt:385:17
 mul-if2 : tie.Need-mul-if2
@@ -19,7 +19,7 @@ mul-if2 c = search needs
 
 -- src/lib.rt:386:9
 returns-2 : tie.Need-returns-2
-returns-2 c = search needs
+returns-2 c = ?
 
 -- src/lib.rt:388:16
 mul-result : tie.Need-mul-result
@@ -27,7 +27,7 @@ mul-result c = search needs
 
 -- src/lib.rt:379:1
 returns-3 : tie.Need-returns-3
-returns-3 c = search needs
+returns-3 c = ?
 
 pub sized-spec : {M : Type 1} → statement M
 sized-spec = tie.close (tie.spec mul-if1 returns mul-if2 returns-2 mul-result returns-3)

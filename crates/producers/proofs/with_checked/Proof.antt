@@ -33,11 +33,11 @@ with-budget-requires-2 c κs = search needs
 
 -- src/lib.rt:287:1
 returns : tie.Need-returns
-returns c = search needs
+returns c = ?
 
 -- src/lib.rt:287:1
 returns-2 : tie.Need-returns-2
-returns-2 c = search needs
+returns-2 c = ?
 
 pub with-checked-spec : {M : Type 1} → statement M
 with-checked-spec =

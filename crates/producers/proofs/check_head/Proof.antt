@@ -1,0 +1,54 @@
+use borrow.Author.Needs.{needs}
+use native.Mathlib.Omega.{arith}
+use Rattle.producers.proofs.check_head.Statement.{statement}
+use Rattle.producers.proofs.check_head.Tie as tie
+use Rattle.producers.proofs.check_head.Reads as reads
+use Rattle.producers.proofs.check_head.Lts as lts
+use Rattle.producers.proofs.check_value.Reads as check-value-reads
+use Rattle.producers.proofs.with_checked.Reads as with-checked-reads
+use Rattle.provenance.proofs.provenance.Reads as provenance-reads
+
+-- src/lib.rt:334:9
+check-value-requires : tie.Need-check-value-requires
+check-value-requires c κs = search needs
+
+-- src/lib.rt:342:11
+with-checked-requires : tie.Need-with-checked-requires
+with-checked-requires c κs = search needs
+
+-- src/lib.rt:343:23
+enum-known-refusal : tie.Need-enum-known-refusal
+enum-known-refusal c = search needs
+
+-- src/lib.rt:344:18
+enum-known-passed : tie.Need-enum-known-passed
+enum-known-passed c = search needs
+
+-- src/lib.rt:344:29
+provenance-requires : tie.Need-provenance-requires
+provenance-requires c κs = search needs
+
+-- src/lib.rt:320:1
+returns : tie.Need-returns
+returns c = ?
+
+-- src/lib.rt:320:1
+same-length : tie.Need-same-length
+same-length c = search needs
+
+-- src/lib.rt:320:1
+returns-2 : tie.Need-returns-2
+returns-2 c = ?
+
+pub check-head-spec : {M : Type 1} → statement M
+check-head-spec =
+    tie.close
+    (tie.spec
+    check-value-requires
+    with-checked-requires
+    enum-known-refusal
+    enum-known-passed
+    provenance-requires
+    returns
+    same-length
+    returns-2)
