@@ -8,7 +8,7 @@ use mathlib.Core.List.{List, [], _∷_}
 use lib.Dec.{leb, ltb, eqb}
 use lib.ListN.{length, getD, take, drop, length-take, drop-of-length-le}
 use lib.Seq.{drop-cons, getD-take}
-use borrow.Author.Tests.{lt-ltb, le-ltb}
+use borrow.Author.Tests.{lt-ltb, le-ltb, lt-leb, le-leb, eq-eqb, ne-eqb, leb-true, ltb-true}
 use Rattle.limits.specs.declared.Resource.the-variants.{Work}
 use Rattle.limits.specs.declared.Stop.{Stop}
 use Rattle.limits.specs.declared.Charged.{Charged}
@@ -17,7 +17,7 @@ use Rattle.limits.specs.declared.Refusal.{Refusal}
 use Rattle.limits.specs.declared.Refusal.the-variants.{Limit, Missing, MissingSlot}
 use Rattle.limits.specs.Refusal.{Told, told}
 use Rattle.limits.specs.Charge.{chargeOf}
-use Rattle.limits.specs.Metered.{Run, going, stopped, Metered, pure, _>>=_, _>>_, through, mapped}
+use Rattle.limits.specs.Metered.{Run, going, stopped, Metered, pure, after, _>>=_, _>>_, through, mapped}
 use Rattle.limits.specs.Meter.{Meter, meter, meterOf, withMeter}
 use Rattle.limits.specs.Meter as inner
 use Rattle.limits.proofs.Monad.{then-on, then-stop, pure-is, through-on, through-stop, came}
@@ -36,22 +36,25 @@ use Rattle.limits.specs.declared.Budget.{Budget}
 use Rattle.limits.specs.Records.{withCount, withStatistics}
 use Rattle.limits.proofs.Ends.{Ends, completes, stops, where-going, ends-as, ends-then, ends-through}
 use Rattle.rules.specs.declared.Head.{Head}
+use Rattle.rules.specs.declared.Rule.{Rule}
+use Rattle.integers.proofs.Tests.{and-left, and-right}
+use Rattle.limits.specs.Budget.{work, links}
 use Rattle.store.specs.declared.Store.{Store}
 use Rattle.store.specs.declared.Done.{Done}
 use Rattle.store.specs.declared.Done.the-variants.{Ok}
 use Rattle.store.specs.declared.Done.the-variants as answer
 use Rattle.store.specs.Store.{withBudget}
 use Rattle.store.specs.Answers.{done}
-use Rattle.provenance.specs.Provenance.{Records, records, provenance, Room}
+use Rattle.provenance.specs.Provenance.{Records, records, provenance, recordable, Room}
 use Rattle.provenance.specs.Answers.{Recorded}
 use Rattle.provenance.proofs.CodeLaws.{recorded-on, recorded-stop}
 use Rattle.provenance.proofs.Frame.{provenance-left}
 use Rattle.store.specs.declared.Context.{Context}
 use Rattle.store.specs.declared.Context.the-variants.{None, Some}
-use Rattle.store.specs.Calls.{unless}
+use Rattle.store.specs.Calls.{unless, charged}
 use Rattle.producers.specs.declared.Checked.{Checked}
 use Rattle.producers.specs.declared.Checked.the-variants.{Passed, Refused}
-use Rattle.producers.specs.Producer.{Scope, scope, step, each, slotIn, checkNode, checkIn, checkExpression, checkPair, checkValue, checkBinding, checkGuard, checking, checkHead, checkHeads}
+use Rattle.producers.specs.Producer.{Scope, scope, step, each, slotIn, checkNode, checkIn, checkExpression, checkPair, checkValue, checkBinding, checkGuard, checking, checkHead, checkHeads, shapely, sizes, spacious, cost}
 use Rattle.producers.specs.Answers.{ended, checkedIn, Checks, Asks, Leaves}
 
 -- ---- a check, step by step
@@ -385,3 +388,105 @@ module _ {sc : Scope} {whole : Metered Told Records (Unit {0})} {s₀ : Store} {
           context = n .context ∙ p .context;
           few = omega (arith, n .few, p .few);
         }
+
+-- ---- refusals 1 and 2
+
+module _ (r : Rule) where
+  pub shapely-slots : 16 < r .slots → false ≡ shapely r
+  shapely-slots h = rw (lt-leb (r .slots) 16 h)
+
+  module _ (a : r .slots ≤ 16) where
+    pub shapely-bindings : 32 < r .lengths .bindings → false ≡ shapely r
+    shapely-bindings h = rw (le-leb (r .slots) 16 a, lt-leb (r .lengths .bindings) 32 h)
+
+    module _ (b : r .lengths .bindings ≤ 32) where
+      pub shapely-guards : 32 < r .lengths .guards → false ≡ shapely r
+      shapely-guards h = rw (le-leb (r .slots) 16 a, le-leb (r .lengths .bindings) 32 b, lt-leb (r .lengths .guards) 32 h)
+
+      module _ (c : r .lengths .guards ≤ 32) where
+        pub shapely-heads : 16 < r .lengths .heads → false ≡ shapely r
+        shapely-heads h = rw (le-leb (r .slots) 16 a, le-leb (r .lengths .bindings) 32 b, le-leb (r .lengths .guards) 32 c, lt-leb (r .lengths .heads) 16 h)
+
+        pub shapely-is : r .lengths .heads ≤ 16 → eqb (r .lengths .queries) 0 ≡ shapely r
+        shapely-is h = rw (le-leb (r .slots) 16 a, le-leb (r .lengths .bindings) 32 b, le-leb (r .lengths .guards) 32 c, le-leb (r .lengths .heads) 16 h)
+
+-- the lengths of a rule that the port has
+pub record Lengthy (r : Rule) : Type 0 where
+  pub slots : r .slots ≤ 16
+  pub bindings : r .lengths .bindings ≤ 32
+  pub guards : r .lengths .guards ≤ 32
+  pub heads : r .lengths .heads ≤ 16
+
+pub lengthy : (r : Rule) → shapely r ≡ true → Lengthy r
+lengthy r e =
+    let f = and-right (leb (r .slots) 16) _ e in
+    let g = and-right (leb (r .lengths .bindings) 32) _ f in
+    let h = and-right (leb (r .lengths .guards) 32) _ g in
+    record {
+      slots = leb-true _ _ (and-left (leb (r .slots) 16) _ e);
+      bindings = leb-true _ _ (and-left (leb (r .lengths .bindings) 32) _ f);
+      guards = leb-true _ _ (and-left (leb (r .lengths .guards) 32) _ g);
+      heads = leb-true _ _ (and-left (leb (r .lengths .heads) 16) _ h);
+    }
+
+module _ (n r p : ℕ) where
+  pub sized-nodes : (n ≡ 5120 → ⊥) → false ≡ sizes n r p
+  sized-nodes h = rw (ne-eqb n 5120 h)
+
+  pub sized-rules : n ≡ 5120 → (r ≡ 75264 → ⊥) → false ≡ sizes n r p
+  sized-rules e h = rw (eq-eqb n 5120 e, ne-eqb r 75264 h)
+
+  pub sized-is : n ≡ 5120 → r ≡ 75264 → eqb p 2048 ≡ sizes n r p
+  sized-is e f = rw (eq-eqb n 5120 e, eq-eqb r 75264 f)
+
+module _ (s : Store) where
+  pub room-rules : 256 ≤ s .counts .rules → false ≡ spacious s
+  room-rules h = rw (le-ltb (s .counts .rules) 256 h)
+
+  module _ (a : s .counts .rules < 256) where
+    pub room-expressions : 1024 < s .counts .expressions → false ≡ spacious s
+    room-expressions h = rw (lt-ltb (s .counts .rules) 256 a, lt-leb (s .counts .expressions) 1024 h)
+
+    module _ (b : s .counts .expressions ≤ 1024) where
+      pub room-positions : 256 < s .counts .positions → false ≡ spacious s
+      room-positions h = rw (lt-ltb (s .counts .rules) 256 a, le-leb (s .counts .expressions) 1024 b, lt-leb (s .counts .positions) 256 h)
+
+      pub room-is : {t : Bool} → s .counts .positions ≤ 256 → t ≡ recordable (s .context) (s .counts .provenance) → t ≡ spacious s
+      room-is h e = rw (lt-ltb (s .counts .rules) 256 a, le-leb (s .counts .expressions) 1024 b, le-leb (s .counts .positions) 256 h) e
+
+room-enough : (c : Context) (n : ℕ) → recordable c n ≡ true → Room 16 c n
+room-enough None n e = tt
+room-enough (Some c) n e = omega (arith, leb-true n 1008 e)
+
+pub roomy : (s : Store) → spacious s ≡ true → (s .counts .rules < 256) × ((s .counts .positions ≤ 256) × Room 16 (s .context) (s .counts .provenance))
+roomy s e =
+    let f = and-right (ltb (s .counts .rules) 256) _ e in
+    let g = and-right (leb (s .counts .expressions) 1024) _ f in
+    (ltb-true _ _ (and-left (ltb (s .counts .rules) 256) _ e),
+    (leb-true _ _ (and-left (leb (s .counts .positions) 256) _ g), room-enough (s .context) (s .counts .provenance) (and-right (leb (s .counts .positions) 256) _ g)))
+
+-- fewer records need less room
+pub room-fewer : (c : Context) (n k : ℕ) → n ≤ 16 → Room 16 c k → Room n c k
+room-fewer None n k h r = tt
+room-fewer (Some c) n k h r = omega arith
+
+-- ---- what a rule charges
+
+module _ (r : Rule) (s : Store) {x : Done} (h : done x ≡ charged (work 1) s) where
+  pub cost-first : {f : Refusal} {u : Store} → x ≡ answer.Refused f u → done (answer.Refused f u) ≡ charged (cost r) s
+  unfolding cost through mapped _>>_ _>>=_ after
+  cost-first e = go (work 1 (s .budget)) (sym (ap done e) ∙ h)
+    where
+      go : {t : Told} {u : Store} (y : Run Stop Budget (Unit {0})) → stopped t u ≡ mapped (λ v. v) (λ v. v) (λ e. told (Limit e)) (mapped (λ b. withBudget b s) (λ b. withBudget b s) (λ e. e) y) →
+          stopped t u ≡ mapped (λ v. v) (λ v. v) (λ e. told (Limit e)) (mapped (λ b. withBudget b s) (λ b. withBudget b s) (λ e. e) (after y (λ _. links (r .slots + r .lengths .bindings + r .lengths .guards + r .lengths .heads + 1))))
+      go (going a b) q = let z : _≡_ {A = ℕ} 0 1 = cc in absurd (omega arith)
+      go (stopped t b) q = q
+
+  pub cost-second : (y : Done) {u : Store} {n : ℕ} → x ≡ Ok u → n ≡ r .slots + r .lengths .bindings + r .lengths .guards + r .lengths .heads + 1 → done y ≡ charged (links n) u → done y ≡ charged (cost r) s
+  unfolding cost through mapped _>>_ _>>=_ after
+  cost-second y {u} e n k = go (work 1 (s .budget)) (sym (ap done e) ∙ h)
+    where
+      go : (z : Run Stop Budget (Unit {0})) → going tt u ≡ mapped (λ v. v) (λ v. v) (λ e. told (Limit e)) (mapped (λ b. withBudget b s) (λ b. withBudget b s) (λ e. e) z) →
+          done y ≡ mapped (λ v. v) (λ v. v) (λ e. told (Limit e)) (mapped (λ b. withBudget b s) (λ b. withBudget b s) (λ e. e) (after z (λ _. links (r .slots + r .lengths .bindings + r .lengths .guards + r .lengths .heads + 1))))
+      go (going a b) q = let w : u ≡ withBudget b s = cc in k ∙ rw (w, n)
+      go (stopped t b) q = let z : _≡_ {A = ℕ} 0 1 = cc in absurd (omega arith)

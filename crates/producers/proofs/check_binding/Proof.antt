@@ -1,3 +1,6 @@
+use Rattle.limits.specs.declared.Refusal.the-variants.{Missing}
+use Rattle.producers.specs.Producer.{scope, slotIn, checkExpression, checkPair}
+use Rattle.producers.proofs.CodeLaws.{binding-is, inside, outside, before-slot, then-slot, checks-asked}
 use borrow.Author.Needs.{needs}
 use native.Mathlib.Omega.{arith}
 use Rattle.producers.proofs.check_binding.Statement.{statement}
@@ -14,7 +17,7 @@ enum-known-binding c = search needs
 
 -- src/lib.rt:116:17
 returns : tie.Need-returns
-returns c = ?
+returns c = let g = c .before .before .binding .given in binding-is (c .before .before .before .before .before .args .arguments) (scope (c .before .before .before .before .before .args .nodes .now) (c .before .before .before .before .before .args .expressions) (c .before .before .before .before .before .args .slots)) _ (g .1) (outside Missing (slotIn (c .before .before .before .before .before .args .slots) (g .0 .0)) (g .0 .1 .0) (c .before .before .before .before .before .args .arguments) (c .if1 .taken))
 
 -- src/lib.rt:118:13
 check-slot-requires : tie.Need-check-slot-requires
@@ -70,27 +73,27 @@ check-slot-requires-4 c κs = search needs
 
 -- src/lib.rt:102:1
 returns-2 : tie.Need-returns-2
-returns-2 c = ?
+returns-2 c = let g = c .before .before .before .binding .given in binding-is (c .before .before .before .before .before .before .args .arguments) (scope (c .before .before .before .before .before .before .args .nodes .now) (c .before .before .before .before .before .before .args .expressions) (c .before .before .before .before .before .before .args .slots)) _ (g .1) (inside Missing (slotIn (c .before .before .before .before .before .before .args .slots) (g .0 .0)) (g .0 .1 .0) (c .before .before .before .before .before .before .args .arguments) (c .before .if1 .left) (checks-asked _ (c .check-slot .ensures)))
 
 -- src/lib.rt:102:1
 returns-3 : tie.Need-returns-3
-returns-3 c = ?
+returns-3 c = let g = c .before .before .before .before .before .binding2 .given in let s = scope (c .before .before .before .before .before .before .before .before .args .nodes .now) (c .before .before .before .before .before .before .before .before .args .expressions) (c .before .before .before .before .before .before .before .before .args .slots) in binding-is (c .before .before .before .before .before .before .before .before .args .arguments) s _ (g .1) (before-slot (checkExpression s (g .0 .1 .0)) (c .before .before .before .before .before .before .before .before .args .slots) (g .0 .0) (c .before .before .before .check-expression .ensures) (c .before .refusal .given .1))
 
 -- src/lib.rt:102:1
 returns-4 : tie.Need-returns-4
-returns-4 c = ?
+returns-4 c = let g = c .before .before .before .before .before .before .binding2 .given in let s = scope (c .before .before .before .before .before .before .before .before .before .args .nodes .now) (c .before .before .before .before .before .before .before .before .before .args .expressions) (c .before .before .before .before .before .before .before .before .before .args .slots) in binding-is (c .before .before .before .before .before .before .before .before .before .args .arguments) s _ (g .1) (then-slot (checkExpression s (g .0 .1 .0)) (c .before .before .before .before .before .before .before .before .before .args .slots) (g .0 .0) (c .before .before .before .before .check-expression .ensures) (c .before .before .spent .given .1) (c .check-slot2 .ensures))
 
 -- src/lib.rt:102:1
 returns-5 : tie.Need-returns-5
-returns-5 c = ?
+returns-5 c = let g = c .before .before .before .before .before .binding3 .given in let s = scope (c .before .before .before .before .before .before .before .before .args .nodes .now) (c .before .before .before .before .before .before .before .before .args .expressions) (c .before .before .before .before .before .before .before .before .args .slots) in binding-is (c .before .before .before .before .before .before .before .before .args .arguments) s _ (g .1) (before-slot (checkPair s (g .0 .1 .0) (g .0 .1 .1 .0)) (c .before .before .before .before .before .before .before .before .args .slots) (g .0 .0) (c .before .before .before .check-pair .ensures) (c .before .refusal2 .given .1))
 
 -- src/lib.rt:102:1
 returns-6 : tie.Need-returns-6
-returns-6 c = ?
+returns-6 c = let g = c .before .before .before .before .before .before .binding3 .given in let s = scope (c .before .before .before .before .before .before .before .before .before .args .nodes .now) (c .before .before .before .before .before .before .before .before .before .args .expressions) (c .before .before .before .before .before .before .before .before .before .args .slots) in binding-is (c .before .before .before .before .before .before .before .before .before .args .arguments) s _ (g .1) (then-slot (checkPair s (g .0 .1 .0) (g .0 .1 .1 .0)) (c .before .before .before .before .before .before .before .before .before .args .slots) (g .0 .0) (c .before .before .before .before .check-pair .ensures) (c .before .before .spent2 .given .1) (c .check-slot3 .ensures))
 
 -- src/lib.rt:102:1
 returns-7 : tie.Need-returns-7
-returns-7 c = ?
+returns-7 c = let g = c .before .before .binding4 .given in binding-is (c .before .before .before .before .before .args .arguments) (scope (c .before .before .before .before .before .args .nodes .now) (c .before .before .before .before .before .args .expressions) (c .before .before .before .before .before .args .slots)) _ (g .1) (checks-asked _ (c .check-slot4 .ensures))
 
 pub check-binding-spec : {M : Type 1} → statement M
 check-binding-spec =

@@ -1,3 +1,5 @@
+use Rattle.producers.specs.Producer.{scope, checkValue}
+use Rattle.producers.proofs.CodeLaws.{checked-on, checked-stop, checking-kept, head-on, head-stop}
 use borrow.Author.Needs.{needs}
 use native.Mathlib.Omega.{arith}
 use Rattle.producers.proofs.check_head.Statement.{statement}
@@ -26,11 +28,11 @@ enum-known-passed c = search needs
 
 -- src/lib.rt:344:29
 provenance-requires : tie.Need-provenance-requires
-provenance-requires c κs = search needs
+provenance-requires c κs = let k = checking-kept (checkValue (scope (c .before .before .before .before .before .before .before .before .before .before .before .args .nodes .now) (c .before .before .before .before .before .before .before .before .before .before .before .args .expressions) (c .before .before .before .before .before .before .before .before .before .before .before .args .slots)) (c .before .before .before .before .before .before .before .before .before .before .before .args .head .value)) (c .before .before .before .before .before .before .before .before .before .before .before .args .store) (checked-on _ (c .before .before .before .before .before .before .before .before .before .before .before .args .store) (c .before .before .before .before .before .check-value .ensures) (c .before .before .before .before .with-checked .ensures) (c .before .before .passed .given .1)) in rw (k .0, k .1) (c .before .before .before .before .before .before .before .before .before .before .before .pre)
 
 -- src/lib.rt:320:1
 returns : tie.Need-returns
-returns c = ?
+returns c = head-stop (scope (c .before .before .before .before .before .before .before .before .before .before .args .nodes .now) (c .before .before .before .before .before .before .before .before .before .before .args .expressions) (c .before .before .before .before .before .before .before .before .before .before .args .slots)) (c .before .before .before .before .before .before .before .before .before .before .args .head) (c .before .before .before .before .before .before .before .before .before .before .args .store) (c .before .before .before .before .before .before .before .before .before .before .args .records .now) (checked-stop _ (c .before .before .before .before .before .before .before .before .before .before .args .store) (c .before .before .before .before .check-value .ensures) (c .before .before .before .with-checked .ensures) (c .before .refusal .given .1))
 
 -- src/lib.rt:320:1
 same-length : tie.Need-same-length
@@ -38,7 +40,7 @@ same-length c = search needs
 
 -- src/lib.rt:320:1
 returns-2 : tie.Need-returns-2
-returns-2 c = ?
+returns-2 c = head-on (scope (c .before .before .before .before .before .before .before .before .before .before .before .before .before .before .args .nodes .now) (c .before .before .before .before .before .before .before .before .before .before .before .before .before .before .args .expressions) (c .before .before .before .before .before .before .before .before .before .before .before .before .before .before .args .slots)) (c .before .before .before .before .before .before .before .before .before .before .before .before .before .before .args .head) (c .before .before .before .before .before .before .before .before .before .before .before .before .before .before .args .store) (c .before .before .before .before .before .before .before .before .before .before .before .before .before .before .args .records .now) (checked-on _ (c .before .before .before .before .before .before .before .before .before .before .before .before .before .before .args .store) (c .before .before .before .before .before .before .before .before .check-value .ensures) (c .before .before .before .before .before .before .before .with-checked .ensures) (c .before .before .before .before .before .passed .given .1)) (c .before .before .provenance .ensures)
 
 pub check-head-spec : {M : Type 1} → statement M
 check-head-spec =

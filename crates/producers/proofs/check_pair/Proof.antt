@@ -1,3 +1,5 @@
+use Rattle.producers.specs.Producer.{scope}
+use Rattle.producers.proofs.CodeLaws.{pair-first, pair-both}
 use borrow.Author.Needs.{needs}
 use native.Mathlib.Omega.{arith}
 use Rattle.producers.proofs.check_pair.Statement.{statement}
@@ -24,11 +26,11 @@ check-expression-requires-2 c κs = search needs
 
 -- src/lib.rt:83:1
 returns : tie.Need-returns
-returns c = ?
+returns c = pair-first (scope (c .before .before .before .before .before .args .nodes .now) (c .before .before .before .before .before .args .expressions) (c .before .before .before .before .before .args .slots)) (c .before .before .before .before .before .args .first) (c .before .before .before .before .before .args .second) (c .before .before .before .check-expression .ensures) (c .before .refusal .given .1)
 
 -- src/lib.rt:83:1
 returns-2 : tie.Need-returns-2
-returns-2 c = ?
+returns-2 c = pair-both (scope (c .before .before .before .before .before .before .args .nodes .now) (c .before .before .before .before .before .before .args .expressions) (c .before .before .before .before .before .before .args .slots)) (c .before .before .before .before .before .before .args .first) (c .before .before .before .before .before .before .args .second) (c .before .before .before .before .check-expression .ensures) (c .before .before .spent .given .1) (c .check-expression2 .ensures)
 
 pub check-pair-spec : {M : Type 1} → statement M
 check-pair-spec =

@@ -1,3 +1,5 @@
+use Rattle.producers.specs.Producer.{scope}
+use Rattle.producers.proofs.CodeLaws.{value-stopped, value-checked}
 use borrow.Author.Needs.{needs}
 use native.Mathlib.Omega.{arith}
 use Rattle.producers.proofs.check_value.Statement.{statement}
@@ -25,11 +27,11 @@ check-expression-requires c κs = search needs
 
 -- src/lib.rt:303:1
 returns : tie.Need-returns
-returns c = ?
+returns c = value-stopped (scope (c .before .before .before .before .before .args .nodes .now) (c .before .before .before .before .before .args .expressions) (c .before .before .before .before .before .args .slots)) (c .before .before .before .before .before .args .id) (c .before .before .before .before .before .args .work) (c .before .before .before .before .before .args .max-work) (c .before .before .before .charge .ensures) (c .before .stop .given .1)
 
 -- src/lib.rt:303:1
 returns-2 : tie.Need-returns-2
-returns-2 c = ?
+returns-2 c = value-checked (scope (c .before .before .before .before .before .before .args .nodes .now) (c .before .before .before .before .before .before .args .expressions) (c .before .before .before .before .before .before .args .slots)) (c .before .before .before .before .before .before .args .id) (c .before .before .before .before .before .before .args .work) (c .before .before .before .before .before .before .args .max-work) (c .before .before .before .before .charge .ensures) (c .before .before .now .given .1) (c .check-expression .ensures)
 
 pub check-value-spec : {M : Type 1} → statement M
 check-value-spec =

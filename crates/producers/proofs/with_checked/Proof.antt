@@ -1,3 +1,4 @@
+use Rattle.producers.proofs.CodeLaws.{in-passed, in-refused}
 use borrow.Author.Needs.{needs}
 use native.Mathlib.Omega.{arith}
 use Rattle.producers.proofs.with_checked.Statement.{statement}
@@ -33,11 +34,11 @@ with-budget-requires-2 c κs = search needs
 
 -- src/lib.rt:287:1
 returns : tie.Need-returns
-returns c = ?
+returns c = in-refused (c .before .before .before .before .before .before .args .store) (c .before .with .ensures) (c .with-budget .ensures) (c .before .before .before .checked .given .1)
 
 -- src/lib.rt:287:1
 returns-2 : tie.Need-returns-2
-returns-2 c = ?
+returns-2 c = in-passed (c .before .before .before .before .before .before .args .store) (c .before .with2 .ensures) (c .with-budget2 .ensures) (c .before .before .before .checked2 .given .1)
 
 pub with-checked-spec : {M : Type 1} → statement M
 with-checked-spec =
