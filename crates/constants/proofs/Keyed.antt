@@ -122,11 +122,11 @@ pub key-back : (names cells : List ℕ) (n : ℕ) (k : Key) → Proper k → 2 *
 key-back names cells n (number v) p c l = number-back names cells n c v p
 key-back names cells n (name s) p c l = name-back names cells n c s p (omega arith)
 
-proper-bytes : (k : Key) → Proper k → length (bytesOf k) ≤ 64
+pub proper-bytes : (k : Key) → Proper k → length (bytesOf k) ≤ 64
 proper-bytes (number v) p = omega arith
 proper-bytes (name s) p = p
 
-retained-new : (cells : List ℕ) (n : ℕ) (k : Key) → 2 * n + 2 ≤ length cells → Retained (putCells cells n (kindOf k) (payloadOf k)) n
+pub retained-new : (cells : List ℕ) (n : ℕ) (k : Key) → 2 * n + 2 ≤ length cells → Retained (putCells cells n (kindOf k) (payloadOf k)) n
 retained-new cells n (number v) c = inl (kind-back cells n c 1 (payloadOf (number v)))
 retained-new cells n (name s) c = inr (kind-back cells n c 2 (length s))
 

@@ -1,2 +1,3 @@
 pub mod CodeLaws
 pub mod Keyed
+pub mod Kept
