@@ -42,6 +42,7 @@ use Rattle.store.specs.Store.{withBudget, withConstants, withKeys, withThreshol
 use Rattle.store.specs.Calls.{open?, charged, Marks, marks, entering}
 use Rattle.store.proofs.Frame.{Spent, spent-none, spent-more, Spends, spends-work, spends-links, spends-bytes, spends-then, spends-metered, Charging, charging-more, charged-left, Marking, ending-ends, entering-left}
 use Rattle.constants.specs.Constant.{bytesOf, retains, classify, KeyTables, keyTables, kindOf, payloadOf, addKey, addLarge, cost, settle, keep, abandon, retain, Tables, tables, inMarks, inKeys, inHeader, sizes, spacious, constantCall}
+use Rattle.constants.proofs.CodeLaws.{sizes-yes, room-yes}
 use Rattle.constants.proofs.Keyed.{Proper, Retained, Keyed, keyed-large, keyed-key, key-back, old-kind, old-payload, old-key, proper-bytes, retained-new}
 
 -- ---- what a call of a key leaves of the header: another budget, and other counts of constants, keys and thresholds
@@ -409,3 +410,171 @@ retain-keeps k proper t w r = go (retains (t .header .budget .limits) k)
     go : (b : Bool) → Ends (Answers k b t) (Refuses t) (cond b (keep k t) (abandon t))
     go true = keep-keeps k proper t w r
     go false = abandon-keeps k t w r
+
+-- ---- the call
+
+-- what the code's types say of a key: a number has 32 bits
+abbrev pub Typed : Key → Type 0
+Typed (number v) = Number v
+Typed (name s) = Unit {0}
+
+proper : (k : Key) → Typed k → length (bytesOf k) ≤ 64 → Proper k
+proper (number v) h l = h
+proper (name s) h l = l
+
+-- the id is given
+pub record Accepted (k : Key) (t : Tables) (id : ℕ) (t′ : Tables) : Type 0 where
+  -- the constants are in order, the id is the key's, and older constants are as they were
+  pub constants : Given k (retains (t .header .budget .limits) k) (t .header .counts .constants) (t .names) (t .constants) (t .order) id
+      (t′ .header .counts .constants) (t′ .header .counts .keys) (t′ .names) (t′ .constants) (t′ .order)
+  -- the thresholds are in order, none is lost, and those of a number stand
+  pub thresholds : Marked k (t .header .counts .thresholds) (t .thresholds) (t′ .header .counts .thresholds) (t′ .thresholds)
+  pub surrounds : Surrounds k (t′ .header .counts .thresholds) (t′ .thresholds)
+  -- the header is as before, but for these three counts and the charges
+  pub header : Besides (t .header) (t′ .header)
+
+-- the call is refused, with e
+pub record Refused (k : Key) (t : Tables) (e : Told) (t′ : Tables) : Type 0 where
+  -- the constants are as they were
+  pub names : t′ .names ≡ t .names
+  pub constants : t′ .constants ≡ t .constants
+  pub order : t′ .order ≡ t .order
+  pub constant-count : t′ .header .counts .constants ≡ t .header .counts .constants
+  pub key-count : t′ .header .counts .keys ≡ t .header .counts .keys
+  -- the thresholds are in order, and none is lost
+  pub thresholds : Marked k (t .header .counts .thresholds) (t .thresholds) (t′ .header .counts .thresholds) (t′ .thresholds)
+  -- the header is as before, but for their count and the charges
+  pub header : Besides (t .header) (t′ .header)
+  -- refusals 1 and 2 change nothing
+  pub untouched : (e .number ≡ 1) ⊎ (e .number ≡ 2) → t′ ≡ t
+
+-- other refusals are a charge's
+charged-too : {A : Type 0} (e : Told) → Limited e → (e .number ≡ 1) ⊎ (e .number ≡ 2) → A
+charged-too e h (inl f) = absurd (omega arith)
+charged-too e h (inr f) = absurd (omega arith)
+
+module _ (k : Key) (t : Tables) (rises : Rises (t .header .counts .thresholds) (t .thresholds)) where
+  refused-first : (e : Told) → Refused k t e t
+  refused-first e = record {
+    names = refl;
+    constants = refl;
+    order = refl;
+    constant-count = refl;
+    key-count = refl;
+    thresholds = marked-none k (t .header .counts .thresholds) (t .thresholds) rises;
+    header = besides-none (t .header);
+    untouched = λ _. refl;
+  }
+
+  -- the first unit of work is charged, or refused
+  module _ {s : Store} (c : Charging (t .header) s) where
+    refused-work : {e : Told} → Limited e → Refused k t e (tables s (t .names) (t .constants) (t .order) (t .thresholds))
+    refused-work {e} h = record {
+      names = refl;
+      constants = refl;
+      order = refl;
+      constant-count = rw (charge-counts c);
+      key-count = rw (charge-counts c);
+      thresholds = rw (charge-counts c) (marked-none k (t .header .counts .thresholds) (t .thresholds) rises);
+      header = besides-charge c;
+      untouched = λ f. charged-too e h f;
+    }
+
+    -- the key is classified, or not
+    module _ {u : Marks} (m : Marking (marks s (t .thresholds)) u) (g : MarkedIn k (marks s (t .thresholds)) u) where
+      constants-same : u .header .counts .constants ≡ t .header .counts .constants
+      constants-same = marks-constants m ∙ ap (λ (n : Counts). n .constants) (charge-counts c)
+
+      keys-same : u .header .counts .keys ≡ t .header .counts .keys
+      keys-same = marks-keys m ∙ ap (λ (n : Counts). n .keys) (charge-counts c)
+
+      marked : Marked k (t .header .counts .thresholds) (t .thresholds) (u .header .counts .thresholds) (u .table)
+      marked = rw (charge-counts c) at g
+
+      besides : Besides (t .header) (u .header)
+      besides = besides-more (besides-charge c) (besides-marks m)
+
+      refused-marks : {e : Told} → Limited e → Refused k t e (tables (u .header) (t .names) (t .constants) (t .order) (u .table))
+      refused-marks {e} h = record {
+        names = refl;
+        constants = refl;
+        order = refl;
+        constant-count = constants-same;
+        key-count = keys-same;
+        thresholds = marked;
+        header = besides;
+        untouched = λ f. charged-too e h f;
+      }
+
+      -- it is kept, or not
+      refused-keys : {e : Told} {v : KeyTables} → Refuses (keyTables (u .header) (t .names) (t .constants) (t .order)) e v → Refused k t e (tables (v .header) (v .names) (v .constants) (v .order) (u .table))
+      refused-keys {e} {v} r = record {
+        names = r .names;
+        constants = r .constants;
+        order = r .order;
+        constant-count = ap (λ (n : Counts). n .constants) (charge-counts (r .charge)) ∙ constants-same;
+        key-count = ap (λ (n : Counts). n .keys) (charge-counts (r .charge)) ∙ keys-same;
+        thresholds = rw (charge-counts (r .charge)) marked;
+        header = besides-more besides (besides-charge (r .charge));
+        untouched = λ f. charged-too e (r .number) f;
+      }
+
+      accepted : Surrounds k (u .header .counts .thresholds) (u .table) → {id : ℕ} {v : KeyTables} →
+          Answers k (retains (u .header .budget .limits) k) (keyTables (u .header) (t .names) (t .constants) (t .order)) id v → Accepted k t id (tables (v .header) (v .names) (v .constants) (v .order) (u .table))
+      accepted q {id} {v} a = record {
+        constants = rw (constants-same, besides .spent .limits) at (a .constants);
+        thresholds = rw (a .thresholds) marked;
+        surrounds = rw (a .thresholds) q;
+        header = besides-more besides (a .header);
+      }
+
+module _ (k : Key) (typed : Typed k) (t : Tables) (keyed : Keyed (t .header .counts .constants) (t .header .counts .keys) (t .names) (t .constants) (t .order))
+    (rises : Rises (t .header .counts .thresholds) (t .thresholds)) where
+  -- where the four tests let the call pass
+  admitted : sizes (length (t .names)) (length (t .constants)) (length (t .order)) (length (t .thresholds)) ≡ true → leb (length (bytesOf k)) 64 ≡ true → spacious (t .header .counts) ≡ true →
+      Ends (Accepted k t) (Refused k t) ((inHeader (charged (work 1)) >> inMarks (classify k) >> inKeys (retain k)) t)
+  admitted z l r =
+      on-then (λ u. u .header) (λ u s. tables s (u .names) (u .constants) (u .order) (u .thresholds)) (λ u s. tables s (u .names) (u .constants) (u .order) (u .thresholds)) (λ e. e)
+      (charged (work 1)) (inMarks (classify k) >> inKeys (retain k)) t (pays (spends-work 1) (t .header))
+      (λ _ s c. charged-once c)
+      (λ e s c. refused-work k t rises (c .1) (c .0))
+    where
+      lengths : (length (t .names) ≡ 65536) × (length (t .constants) ≡ 2048) × (length (t .order) ≡ 1024) × (length (t .thresholds) ≡ 4096)
+      lengths = sizes-yes (length (t .names)) (length (t .constants)) (length (t .order)) (length (t .thresholds)) z
+
+      counts : (t .header .counts .constants < 1024) × ((t .header .counts .keys < 1024) × (t .header .counts .thresholds ≤ 4088))
+      counts = room-yes (t .header .counts) r
+
+      room : Room (t .header .counts .constants) (t .header .counts .keys) (t .names) (t .constants) (t .order)
+      room = record { bytes = omega (arith, lengths .0, counts .0); pair = omega (arith, lengths .1, counts .0); place = omega (arith, lengths .2, counts .1 .0) }
+
+      charged-once : {s : Store} → Charging (t .header) s → Ends (Accepted k t) (Refused k t) ((inMarks (classify k) >> inKeys (retain k)) (tables s (t .names) (t .constants) (t .order) (t .thresholds)))
+      charged-once {s} c =
+          on-then (λ u. marks (u .header) (u .thresholds)) (λ u m. tables (m .header) (u .names) (u .constants) (u .order) (m .table)) (λ u m. tables (m .header) (u .names) (u .constants) (u .order) (m .table)) (λ e. e)
+          (classify k) (inKeys (retain k)) (tables s (t .names) (t .constants) (t .order) (t .thresholds))
+          (classify-marks k (marks s (t .thresholds)) (rw (charge-counts c) rises) (rw (charge-counts c) (omega (arith, lengths .3, counts .1 .1))))
+          (λ _ u h. classified (h .0) (h .1) (h .2))
+          (λ e u h. refused-marks k t rises c (h .1) (h .2) (h .0))
+        where
+          classified : {u : Marks} → Marking (marks s (t .thresholds)) u → MarkedIn k (marks s (t .thresholds)) u → Surrounds k (u .header .counts .thresholds) (u .table) →
+              Ends (Accepted k t) (Refused k t) (inKeys (retain k) (tables (u .header) (t .names) (t .constants) (t .order) (u .table)))
+          classified {u} m g q =
+              ends-through (λ u. keyTables (u .header) (u .names) (u .constants) (u .order)) (λ u v. tables (v .header) (v .names) (v .constants) (v .order) (u .thresholds))
+              (λ u v. tables (v .header) (v .names) (v .constants) (v .order) (u .thresholds)) (λ e. e) (retain k) (tables (u .header) (t .names) (t .constants) (t .order) (u .table))
+              (retain-keeps k (proper k typed (leb-true (length (bytesOf k)) 64 l)) (keyTables (u .header) (t .names) (t .constants) (t .order))
+              (rw (constants-same k t rises c m g, keys-same k t rises c m g) keyed) (rw (constants-same k t rises c m g, keys-same k t rises c m g) room))
+              (λ id v a. accepted k t rises c m g q a)
+              (λ e v a. refused-keys k t rises c m g a)
+
+  pub constant-keeps : Ends (Accepted k t) (Refused k t) (constantCall k t)
+  unfolding constantCall
+  constant-keeps =
+      ends-test (sizes (length (t .names)) (length (t .constants)) (length (t .order)) (length (t .thresholds)))
+      (λ z.
+      ends-test (leb (length (bytesOf k)) 64)
+      (λ l.
+      ends-test (open? (t .header))
+      (λ _. ends-test (spacious (t .header .counts)) (λ r. admitted z l r) (λ _. stops (refused-first k t rises (told Full))))
+      (λ _. stops (refused-first k t rises (told Closed))))
+      (λ _. stops (refused-first k t rises (told Shape))))
+      (λ _. stops (refused-first k t rises (told Shape)))
