@@ -1,145 +1,43 @@
--- What the call of a key leaves, whichever way it ends: the key order and the thresholds in order, all that stood as it stood.
+-- What the call of a key leaves, whichever way it ends: the constants and the thresholds in order, all that stood as it stood.
 use Prim.Native.Nat.{ℕ, _+_, _-_, _*_, _≤_, _<_}
 use native.Mathlib.Omega.{arith}
-use mathlib.Core.Path.{_≡_, refl, sym, ap, _∙_}
+use mathlib.Core.Path.{_≡_, refl, _∙_}
 use mathlib.Core.Logic.{_⊎_, inl, inr}
 use mathlib.Core.Bool.{Bool, true, false, cond}
 use mathlib.Core.List.{List, [], _∷_}
-use borrow.Author.Tests.{ltb-true, leb-true, eqb-true}
-use lib.Dec.{leb, ltb, eqb}
+use borrow.Author.Tests.{leb-true}
+use lib.Dec.{leb}
 use lib.IntN.{ℤ, pos, _+ℤ_, _-ℤ_}
 use lib.ListN.{length, getD}
 use lib.Seq.{length-sets}
 use Rattle.integers.specs.Order.{Number}
 use Rattle.integers.specs.Lists.{inserted}
-use Rattle.integers.proofs.Tests.{and-left, and-right}
 use Rattle.integers.proofs.Insertion.{inserted-length}
-use Rattle.limits.specs.declared.Resource.{Resource}
-use Rattle.limits.specs.declared.Resource.the-variants.{Work, Predicates, Positions, Links, ValueEntries, Rounds, InspectedBytes}
-use Rattle.limits.specs.declared.Stop.{Stop}
-use Rattle.limits.specs.declared.Budget.{Budget}
-use Rattle.limits.specs.declared.Refusal.the-variants.{Closed, Shape, Full, Limit}
-use Rattle.limits.specs.Refusal.{Told, told, resourceNumber}
-use Rattle.limits.specs.Metered.{Run, going, stopped, Metered, after, _>>=_, _>>_, through, mapped}
+use Rattle.limits.specs.declared.Refusal.the-variants.{Limit}
+use Rattle.limits.specs.Refusal.{Told, told}
+use Rattle.limits.specs.Metered.{stopped, _>>_}
 use Rattle.limits.specs.Meter.{metered}
-use Rattle.limits.specs.Budget.{work, bytes, links}
-use Rattle.limits.proofs.Monad.{Holds, Ensures, by-through}
+use Rattle.limits.specs.Budget.{work, bytes}
+use Rattle.limits.proofs.Monad.{Ensures, by-through}
 use Rattle.limits.proofs.Ends.{Ends, completes, stops, ends-test, ends-as, ends-both, ends-through}
-use Rattle.search.specs.declared.Ordering.the-variants.{Equal}
 use Rattle.search.specs.Seek.{Place, found, absent}
 use Rattle.search.proofs.Complete as search
 use Rattle.thresholds.specs.Thresholds.{Entry, entry, around}
 use Rattle.thresholds.proofs.Outcomes.{live-seek}
 use Rattle.thresholds.proofs.Outcomes as outcomes
-use Rattle.thresholds.proofs.Sorted.{Rises, Has, Kept, Near, Surrounded, around-keeps}
+use Rattle.thresholds.proofs.Sorted.{Rises, Kept, Near, Surrounded, around-keeps}
 use Rattle.keys.specs.Key.{Key, number, name, kindAt, payloadAt, keyAt, putCells, putName, probe, seekKey}
 use Rattle.keys.proofs.CodecLaws.{kind-back}
 use Rattle.keys.proofs.KeyOrder.{total-keys}
 use Rattle.keys.proofs.KeyOrder as keys
-use Rattle.store.specs.declared.Counts.{Counts}
 use Rattle.store.specs.declared.Store.{Store}
-use Rattle.store.specs.Store.{withBudget, withConstants, withKeys, withThresholds}
+use Rattle.store.specs.Store.{withConstants, withKeys}
 use Rattle.store.specs.Calls.{open?, charged, Marks, marks, entering}
-use Rattle.store.proofs.Frame.{Spent, spent-none, spent-more, Spends, spends-work, spends-links, spends-bytes, spends-then, spends-metered, Charging, charging-more, charged-left, Marking, ending-ends, entering-left}
+use Rattle.store.proofs.Frame.{spent-none, Spends, spends-work, spends-links, spends-bytes, spends-then, spends-metered, Charging, charging-more, Marking, ending-ends, entering-left}
 use Rattle.constants.specs.Constant.{bytesOf, retains, classify, KeyTables, keyTables, kindOf, payloadOf, addKey, addLarge, cost, settle, keep, abandon, retain, Tables, tables, inMarks, inKeys, inHeader, sizes, spacious, constantCall}
 use Rattle.constants.proofs.CodeLaws.{sizes-yes, room-yes}
-use Rattle.constants.proofs.Keyed.{Proper, Retained, Keyed, keyed-large, keyed-key, key-back, old-kind, old-payload, old-key, proper-bytes, retained-new}
-
--- ---- what a call of a key leaves of the header: another budget, and other counts of constants, keys and thresholds
-
-pub record Besides (s s′ : Store) : Type 0 where
-  pub predicates : s′ .counts .predicates ≡ s .counts .predicates
-  pub positions : s′ .counts .positions ≡ s .counts .positions
-  pub expressions : s′ .counts .expressions ≡ s .counts .expressions
-  pub rules : s′ .counts .rules ≡ s .counts .rules
-  pub provenance : s′ .counts .provenance ≡ s .counts .provenance
-  pub context : s′ .context ≡ s .context
-  pub phase : s′ .phase ≡ s .phase
-  -- the limits too are as before
-  pub spent : Spent (s .budget) (s′ .budget)
-
-besides-of : (s : Store) (b : Budget) (constants keys thresholds : ℕ) → Spent (s .budget) b → Besides s (withKeys keys (withConstants constants (withThresholds thresholds (withBudget b s))))
-besides-of s b constants keys thresholds h = record { predicates = refl; positions = refl; expressions = refl; rules = refl; provenance = refl; context = refl; phase = refl; spent = h }
-
-besides-none : (s : Store) → Besides s s
-besides-none s = besides-of s (s .budget) (s .counts .constants) (s .counts .keys) (s .counts .thresholds) (spent-none (s .budget))
-
-besides-more : {r s t : Store} → Besides r s → Besides s t → Besides r t
-besides-more h k = record {
-  predicates = k .predicates ∙ h .predicates;
-  positions = k .positions ∙ h .positions;
-  expressions = k .expressions ∙ h .expressions;
-  rules = k .rules ∙ h .rules;
-  provenance = k .provenance ∙ h .provenance;
-  context = k .context ∙ h .context;
-  phase = k .phase ∙ h .phase;
-  spent = spent-more (h .spent) (k .spent);
-}
-
--- a charge leaves all counts of the tables
-besides-charge : {s s′ : Store} → Charging s s′ → Besides s s′
-besides-charge {s} c = rw (c .is) (besides-of s (c .budget) (s .counts .constants) (s .counts .keys) (s .counts .thresholds) (c .spent))
-
-charge-counts : {s s′ : Store} → Charging s s′ → s′ .counts ≡ s .counts
-charge-counts c = rw (c .is)
-
--- thresholds leave all but their own
-besides-marks : {t t′ : Marks} → Marking t t′ → Besides (t .header) (t′ .header)
-besides-marks {t} {t′} c = rw (c .is) (besides-of (t .header) (c .budget) (t .header .counts .constants) (t .header .counts .keys) (t′ .header .counts .thresholds) (c .spent))
-
-marks-constants : {t t′ : Marks} → Marking t t′ → t′ .header .counts .constants ≡ t .header .counts .constants
-marks-constants c = rw (c .is)
-
-marks-keys : {t t′ : Marks} → Marking t t′ → t′ .header .counts .keys ≡ t .header .counts .keys
-marks-keys c = rw (c .is)
-
--- ---- steps on a part of the state, and what stops them
-
-module _ {E F S T A B : Type 0} (get : S → T) (kept left : S → T → S) (tell : E → F) {P : A → T → Type 0} {Q : E → T → Type 0} {R : B → S → Type 0} {U : F → S → Type 0} where
-  on-bind : (m : Metered E T A) (f : A → Metered F S B) (s : S) → Ends P Q (m (get s)) → ((a : A) (t : T) → P a t → Ends R U (f a (kept s t))) → ((e : E) (t : T) → Q e t → U (tell e) (left s t)) →
-      Ends R U ((through get kept left tell m >>= f) s)
-  unfolding _>>=_ after through mapped
-  on-bind m f s h k l = go h
-    where
-      go : {x : Run E T A} → Ends P Q x → Ends R U (after (mapped (kept s) (left s) tell x) f)
-      go (completes p) = k _ _ p
-      go (stops q) = stops (l _ _ q)
-
-  on-then : (m : Metered E T A) (n : Metered F S B) (s : S) → Ends P Q (m (get s)) → ((a : A) (t : T) → P a t → Ends R U (n (kept s t))) → ((e : E) (t : T) → Q e t → U (tell e) (left s t)) →
-      Ends R U ((through get kept left tell m >> n) s)
-  unfolding _>>_
-  on-then m n s h k l = on-bind m (λ _. n) s h k l
-
-module _ {E S A : Type 0} where
-  in-some-way : (x : Run E S A) → Ends (λ _ _. Unit {0}) (λ _ _. Unit {0}) x
-  in-some-way (going a s) = completes tt
-  in-some-way (stopped e s) = stops tt
-
-  with-value : {P : A → Type 0} (x : Run E S A) → Holds P x → Ends (λ a _. P a) (λ _ _. Unit {0}) x
-  with-value (going a s) h = completes h
-  with-value (stopped e s) h = stops tt
-
--- a charge is refused with a resource's number, which is neither 1 nor 2
-abbrev pub Limited : Told → Type 0
-Limited e = 3 ≤ e .number
-
-limited : (s : Stop) → Limited (told (Limit s))
-limited s = go (s .resource)
-  where
-    go : (r : Resource) → 3 ≤ resourceNumber r
-    go Work = omega arith
-    go InspectedBytes = omega arith
-    go Predicates = omega arith
-    go Positions = omega arith
-    go Links = omega arith
-    go ValueEntries = omega arith
-    go Rounds = omega arith
-
-pays : {A : Type 0} {m : Metered Stop Budget A} → Spends m → (s : Store) → Ends (λ _ s′. Charging s s′) (λ e s′. Limited e × Charging s s′) (charged m s)
-pays {A} {m} h s = ends-as (ends-both (charged-left h s) refusal) (λ _ s′ p. p .0) (λ e s′ p. (p .1, p .0))
-  where
-    refusal : Ends (λ _ _. Unit {0}) (λ e _. Limited e) (charged m s)
-    refusal = ends-through (λ t. t) (λ _ t. t) (λ _ t. t) (λ e. told (Limit e)) _ s (in-some-way _) (λ _ _ _. tt) (λ e _ _. limited e)
+use Rattle.constants.proofs.Keyed.{Proper, Retained, Keyed, keyed-large, keyed-key, key-back, old-kind, old-payload, old-key, proper-bytes, retained-new, one-id}
+use Rattle.constants.proofs.Steps.{Besides, besides-of, besides-none, besides-more, besides-charge, charge-counts, besides-marks, marks-constants, marks-keys, on-bind, on-then, in-some-way, with-value, Limited, limited, pays}
 
 -- ---- the thresholds of a key
 
@@ -314,94 +212,74 @@ pub record Answers (k : Key) (retained : Bool) (t : KeyTables) (id : ℕ) (t′ 
 pub record Refuses (t : KeyTables) (e : Told) (t′ : KeyTables) : Type 0 where
   pub number : Limited e
   pub charge : Charging (t .header) (t′ .header)
-  pub names : t′ .names ≡ t .names
-  pub constants : t′ .constants ≡ t .constants
-  pub order : t′ .order ≡ t .order
+  pub is : t′ ≡ keyTables (t′ .header) (t .names) (t .constants) (t .order)
 
-refuses : (t : KeyTables) {e : Told} {s : Store} → Limited e → Charging (t .header) s → Refuses t e (keyTables s (t .names) (t .constants) (t .order))
-refuses t h c = record { number = h; charge = c; names = refl; constants = refl; order = refl }
+refuses : (t : KeyTables) {e : Told} {s : Store} → Limited e × Charging (t .header) s → Refuses t e (keyTables s (t .names) (t .constants) (t .order))
+refuses t h = record { number = h .0; charge = h .1; is = refl }
 
--- the search of a key order ends as it should, and charges work
+-- where the search for a key ends
+abbrev Sought : Key → KeyTables → Place → Type 0
+Sought k t = search.Ends (probe (t .names) (t .constants) (t .order) k) (t .header .counts .keys)
+
 sought : (k : Key) (t : KeyTables) → KeyedIn t →
-    Ends (λ p s. Charging (t .header) s × search.Ends (probe (t .names) (t .constants) (t .order) k) (t .header .counts .keys) p) (λ e s. Limited e × Charging (t .header) s)
-    (charged (metered (seekKey (t .names) (t .constants) (t .order) (t .header .counts .keys) k)) (t .header))
+    Ends (λ p s. Charging (t .header) s × Sought k t p) (λ e s. Limited e × Charging (t .header) s) (charged (metered (seekKey (t .names) (t .constants) (t .order) (t .header .counts .keys) k)) (t .header))
 unfolding seekKey
-sought k t w =
-    ends-as
-    (ends-both (pays (spends-metered (live-seek (probe (t .names) (t .constants) (t .order) k) (t .header .counts .keys) 0 (t .header .counts .keys))) (t .header))
-    (with-value (charged (metered (seekKey (t .names) (t .constants) (t .order) (t .header .counts .keys) k)) (t .header)) (value .at (t .header))))
-    (λ p s h. h)
-    (λ e s h. h .0)
+sought k t w = ends-as (ends-both (pays (spends-metered (live-seek _ _ _ _)) (t .header)) (with-value _ (value .at (t .header)))) (λ p s h. h) (λ e s h. h .0)
   where
-    value : Ensures (search.Ends (probe (t .names) (t .constants) (t .order) k) (t .header .counts .keys)) (charged (metered (seekKey (t .names) (t .constants) (t .order) (t .header .counts .keys) k)))
+    value : Ensures (Sought k t) (charged (metered (seekKey (t .names) (t .constants) (t .order) (t .header .counts .keys) k)))
     value = by-through _ _ _ _ _ (by-through _ _ _ _ _ (by-through _ _ _ _ _ (keys.search-complete (t .names) (t .constants) (t .order) (t .header .counts .keys) k (w .sorted))))
 
 spends-cost : (n : ℕ) → Spends (cost n)
 unfolding cost
 spends-cost n = spends-then (spends-links 1) (spends-work n)
 
+-- the three answers, from the same tables with the header as charges have left it
 module _ (k : Key) (t : KeyTables) (w : KeyedIn t) {s : Store} (c : Charging (t .header) s) where
-  -- the same tables, with the header as charges have left it
-  abbrev charging : KeyTables
-  charging = keyTables s (t .names) (t .constants) (t .order)
+  abbrev ready : KeyTables
+  ready = keyTables s (t .names) (t .constants) (t .order)
 
-  answers-again : (p : ℕ) → search.Ends (probe (t .names) (t .constants) (t .order) k) (t .header .counts .keys) (found p) → Answers k true t (getD (t .order) p 0) charging
-  answers-again p h = record {
-    constants = rw (charge-counts c) (given-again k (t .header .counts .constants) (t .header .counts .keys) (t .names) (t .constants) (t .order) w p h);
-    thresholds = rw (charge-counts c);
-    header = besides-charge c;
-  }
+  answers-again : (p : ℕ) → Sought k t (found p) → Answers k true t (getD (t .order) p 0) ready
+  answers-again p h = record { constants = rw (charge-counts c) (given-again k _ _ _ _ _ w p h); thresholds = rw (charge-counts c); header = besides-charge c }
 
   module _ (r : RoomIn t) where
-    answers-new : Proper k → (low : ℕ) → search.Ends (probe (t .names) (t .constants) (t .order) k) (t .header .counts .keys) (absent low) →
-        Ends (Answers k true t) (Refuses t) (addKey k low charging)
+    answers-new : Proper k → (low : ℕ) → Sought k t (absent low) → Ends (Answers k true t) (Refuses t) (addKey k low ready)
     answers-new proper low h = completes answers
       where
         answers : Answers k true t (s .counts .constants)
             (keyTables (withKeys (s .counts .keys + 1) (withConstants (s .counts .constants + 1) s)) (putName (t .names) (s .counts .constants) (bytesOf k))
             (putCells (t .constants) (s .counts .constants) (kindOf k) (payloadOf k)) (inserted (t .order) low (s .counts .keys) (s .counts .constants)))
         answers = record {
-          constants = rw (charge-counts c) (given-new k (t .header .counts .constants) (t .header .counts .keys) (t .names) (t .constants) (t .order) w r proper low h);
+          constants = rw (charge-counts c) (given-new k _ _ _ _ _ w r proper low h);
           thresholds = rw (charge-counts c);
           header = besides-more (besides-charge c) (besides-of s (s .budget) (s .counts .constants + 1) (s .counts .keys + 1) (s .counts .thresholds) (spent-none (s .budget)));
         }
 
-    answers-large : Ends (Answers k false t) (Refuses t) (addLarge charging)
+    answers-large : Ends (Answers k false t) (Refuses t) (addLarge ready)
     answers-large = completes answers
       where
         answers : Answers k false t (s .counts .constants) (keyTables (withConstants (s .counts .constants + 1) s) (t .names) (putCells (t .constants) (s .counts .constants) 0 0) (t .order))
         answers = record {
-          constants = rw (charge-counts c) (given-large k (t .header .counts .constants) (t .header .counts .keys) (t .names) (t .constants) (t .order) w r);
+          constants = rw (charge-counts c) (given-large k _ _ _ _ _ w r);
           thresholds = rw (charge-counts c);
           header = besides-more (besides-charge c) (besides-of s (s .budget) (s .counts .constants + 1) (s .counts .keys) (s .counts .thresholds) (spent-none (s .budget)));
         }
 
 module _ (k : Key) (proper : Proper k) (t : KeyTables) (w : KeyedIn t) (r : RoomIn t) where
-  settled : {s : Store} → Charging (t .header) s → (p : Place) → search.Ends (probe (t .names) (t .constants) (t .order) k) (t .header .counts .keys) p →
-      Ends (Answers k true t) (Refuses t) (settle k (t .header .counts .keys) p (keyTables s (t .names) (t .constants) (t .order)))
+  settled : {s : Store} → Charging (t .header) s → (p : Place) → Sought k t p → Ends (Answers k true t) (Refuses t) (settle k (t .header .counts .keys) p (keyTables s (t .names) (t .constants) (t .order)))
   unfolding settle
-  settled {s} c (found p) h = completes (answers-again k t w c p h)
+  settled c (found p) h = completes (answers-again k t w c p h)
   settled {s} c (absent low) h =
-      on-then (λ u. u .header) (λ u s. keyTables s (u .names) (u .constants) (u .order)) (λ u s. keyTables s (u .names) (u .constants) (u .order)) (λ e. e)
-      (charged (cost (t .header .counts .keys - low))) (addKey k low) (keyTables s (t .names) (t .constants) (t .order)) (pays (spends-cost (t .header .counts .keys - low)) s)
+      on-then _ _ _ _ _ (addKey k low) _ (pays (spends-cost (t .header .counts .keys - low)) s)
       (λ _ u d. answers-new k t w (charging-more c d) r proper low h)
-      (λ e u d. refuses t (d .0) (charging-more c (d .1)))
+      (λ e u d. refuses t (d .0, charging-more c (d .1)))
 
   pub keep-keeps : Ends (Answers k true t) (Refuses t) (keep k t)
   unfolding keep
-  keep-keeps =
-      on-bind (λ u. u .header) (λ u s. keyTables s (u .names) (u .constants) (u .order)) (λ u s. keyTables s (u .names) (u .constants) (u .order)) (λ e. e)
-      (charged (metered (seekKey (t .names) (t .constants) (t .order) (t .header .counts .keys) k))) (settle k (t .header .counts .keys)) t (sought k t w)
-      (λ p s h. settled (h .0) p (h .1))
-      (λ e s h. refuses t (h .0) (h .1))
+  keep-keeps = on-bind _ _ _ _ _ (settle k (t .header .counts .keys)) t (sought k t w) (λ p s h. settled (h .0) p (h .1)) (λ e s h. refuses t h)
 
 pub abandon-keeps : (k : Key) (t : KeyTables) → KeyedIn t → RoomIn t → Ends (Answers k false t) (Refuses t) (abandon t)
 unfolding abandon
-abandon-keeps k t w r =
-    on-then (λ u. u .header) (λ u s. keyTables s (u .names) (u .constants) (u .order)) (λ u s. keyTables s (u .names) (u .constants) (u .order)) (λ e. e) (charged (links 1)) addLarge t
-    (pays (spends-links 1) (t .header))
-    (λ _ s c. answers-large k t w c r)
-    (λ e s c. refuses t (c .0) (c .1))
+abandon-keeps k t w r = on-then _ _ _ _ _ addLarge t (pays (spends-links 1) (t .header)) (λ _ s c. answers-large k t w c r) (λ e s c. refuses t c)
 
 retain-keeps : (k : Key) → Proper k → (t : KeyTables) → KeyedIn t → RoomIn t → Ends (Answers k (retains (t .header .budget .limits) k) t) (Refuses t) (retain k t)
 unfolding retain
@@ -430,117 +308,90 @@ pub record Accepted (k : Key) (t : Tables) (id : ℕ) (t′ : Tables) : Type 0 w
   -- the thresholds are in order, none is lost, and those of a number stand
   pub thresholds : Marked k (t .header .counts .thresholds) (t .thresholds) (t′ .header .counts .thresholds) (t′ .thresholds)
   pub surrounds : Surrounds k (t′ .header .counts .thresholds) (t′ .thresholds)
-  -- the header is as before, but for these three counts and the charges
+  -- the header is as before, but for the counts of these tables and the charges
   pub header : Besides (t .header) (t′ .header)
 
--- the call is refused, with e
-pub record Refused (k : Key) (t : Tables) (e : Told) (t′ : Tables) : Type 0 where
-  -- the constants are as they were
+-- no constant is new: s is the header then, and `table` the thresholds
+pub record Still (k : Key) (t : Tables) (s : Store) (table : List ℤ) : Type 0 where
+  pub constants : s .counts .constants ≡ t .header .counts .constants
+  pub keys : s .counts .keys ≡ t .header .counts .keys
+  -- the thresholds are in order, and none is lost
+  pub thresholds : Marked k (t .header .counts .thresholds) (t .thresholds) (s .counts .thresholds) table
+  -- the header is as before, but for their count and the charges
+  pub header : Besides (t .header) s
+
+-- the call is turned down, with e
+pub record Declined (k : Key) (t : Tables) (e : Told) (t′ : Tables) : Type 0 where
+  -- the tables of constants are as they were, and so are their counts
   pub names : t′ .names ≡ t .names
   pub constants : t′ .constants ≡ t .constants
   pub order : t′ .order ≡ t .order
-  pub constant-count : t′ .header .counts .constants ≡ t .header .counts .constants
-  pub key-count : t′ .header .counts .keys ≡ t .header .counts .keys
-  -- the thresholds are in order, and none is lost
-  pub thresholds : Marked k (t .header .counts .thresholds) (t .thresholds) (t′ .header .counts .thresholds) (t′ .thresholds)
-  -- the header is as before, but for their count and the charges
-  pub header : Besides (t .header) (t′ .header)
+  pub still : Still k t (t′ .header) (t′ .thresholds)
   -- refusals 1 and 2 change nothing
   pub untouched : (e .number ≡ 1) ⊎ (e .number ≡ 2) → t′ ≡ t
 
--- other refusals are a charge's
-charged-too : {A : Type 0} (e : Told) → Limited e → (e .number ≡ 1) ⊎ (e .number ≡ 2) → A
-charged-too e h (inl f) = absurd (omega arith)
-charged-too e h (inr f) = absurd (omega arith)
+module _ (k : Key) (t : Tables) where
+  still-none : Rises (t .header .counts .thresholds) (t .thresholds) → Still k t (t .header) (t .thresholds)
+  still-none r = record { constants = refl; keys = refl; thresholds = marked-none k _ _ r; header = besides-none (t .header) }
 
-module _ (k : Key) (t : Tables) (rises : Rises (t .header .counts .thresholds) (t .thresholds)) where
-  refused-first : (e : Told) → Refused k t e t
-  refused-first e = record {
-    names = refl;
-    constants = refl;
-    order = refl;
-    constant-count = refl;
-    key-count = refl;
-    thresholds = marked-none k (t .header .counts .thresholds) (t .thresholds) rises;
-    header = besides-none (t .header);
-    untouched = λ _. refl;
+  still-charge : {s s′ : Store} {table : List ℤ} → Still k t s table → Charging s s′ → Still k t s′ table
+  still-charge h c = record {
+    constants = rw (charge-counts c) (h .constants);
+    keys = rw (charge-counts c) (h .keys);
+    thresholds = rw (charge-counts c) (h .thresholds);
+    header = besides-more (h .header) (besides-charge c);
   }
 
-  -- the first unit of work is charged, or refused
-  module _ {s : Store} (c : Charging (t .header) s) where
-    refused-work : {e : Told} → Limited e → Refused k t e (tables s (t .names) (t .constants) (t .order) (t .thresholds))
-    refused-work {e} h = record {
-      names = refl;
-      constants = refl;
-      order = refl;
-      constant-count = rw (charge-counts c);
-      key-count = rw (charge-counts c);
-      thresholds = rw (charge-counts c) (marked-none k (t .header .counts .thresholds) (t .thresholds) rises);
-      header = besides-charge c;
-      untouched = λ f. charged-too e h f;
+  still-marks : {s : Store} → Charging (t .header) s → {u : Marks} → Marking (marks s (t .thresholds)) u → MarkedIn k (marks s (t .thresholds)) u → Still k t (u .header) (u .table)
+  still-marks c m g = record {
+    constants = marks-constants m ∙ rw (charge-counts c);
+    keys = marks-keys m ∙ rw (charge-counts c);
+    thresholds = rw (charge-counts c) at g;
+    header = besides-more (besides-charge c) (besides-marks m);
+  }
+
+  -- a test turns it down
+  declined-first : Rises (t .header .counts .thresholds) (t .thresholds) → (e : Told) → Declined k t e t
+  declined-first r e = record { names = refl; constants = refl; order = refl; still = still-none r; untouched = λ _. refl }
+
+  -- or a charge does
+  declined : {s : Store} {table : List ℤ} (e : Told) → Limited e → Still k t s table → Declined k t e (tables s (t .names) (t .constants) (t .order) table)
+  declined {s} {table} e h q = record { names = refl; constants = refl; order = refl; still = q; untouched = λ f. absurd (other f) }
+    where
+      other : (e .number ≡ 1) ⊎ (e .number ≡ 2) → ⊥
+      other (inl f) = omega arith
+      other (inr f) = omega arith
+
+  module _ {s : Store} {table : List ℤ} (h : Still k t s table) where
+    declined-keys : (e : Told) {v : KeyTables} → Refuses (keyTables s (t .names) (t .constants) (t .order)) e v → Declined k t e (tables (v .header) (v .names) (v .constants) (v .order) table)
+    declined-keys e {v} r = rw (r .is) (declined e (r .number) (still-charge h (r .charge)))
+
+    accepted : Surrounds k (s .counts .thresholds) table → {id : ℕ} {v : KeyTables} → Answers k (retains (s .budget .limits) k) (keyTables s (t .names) (t .constants) (t .order)) id v →
+        Accepted k t id (tables (v .header) (v .names) (v .constants) (v .order) table)
+    accepted q a = record {
+      constants = rw (h .constants, h .header .spent .limits) at (a .constants);
+      thresholds = rw (a .thresholds) (h .thresholds);
+      surrounds = rw (a .thresholds) q;
+      header = besides-more (h .header) (a .header);
     }
 
-    -- the key is classified, or not
-    module _ {u : Marks} (m : Marking (marks s (t .thresholds)) u) (g : MarkedIn k (marks s (t .thresholds)) u) where
-      constants-same : u .header .counts .constants ≡ t .header .counts .constants
-      constants-same = marks-constants m ∙ ap (λ (n : Counts). n .constants) (charge-counts c)
+-- constants and thresholds are in order before the call
+module _ (k : Key) (typed : Typed k) (t : Tables) (keyed : Keyed (t .header .counts .constants) (t .header .counts .keys) (t .names) (t .constants) (t .order)) (rises : Rises (t .header .counts .thresholds) (t .thresholds)) where
+  -- the last step: the key is kept, or not
+  last : Proper k → Room (t .header .counts .constants) (t .header .counts .keys) (t .names) (t .constants) (t .order) → {s : Store} {table : List ℤ} → Still k t s table → Surrounds k (s .counts .thresholds) table →
+      Ends (Accepted k t) (Declined k t) (inKeys (retain k) (tables s (t .names) (t .constants) (t .order) table))
+  last p room {s} h q =
+      ends-through _ _ _ _ (retain k) _ (retain-keeps k p (keyTables s (t .names) (t .constants) (t .order)) (rw (h .constants, h .keys) keyed) (rw (h .constants, h .keys) room)) (λ id v a. accepted k t h q a)
+      (λ e v r. declined-keys k t h e r)
 
-      keys-same : u .header .counts .keys ≡ t .header .counts .keys
-      keys-same = marks-keys m ∙ ap (λ (n : Counts). n .keys) (charge-counts c)
-
-      marked : Marked k (t .header .counts .thresholds) (t .thresholds) (u .header .counts .thresholds) (u .table)
-      marked = rw (charge-counts c) at g
-
-      besides : Besides (t .header) (u .header)
-      besides = besides-more (besides-charge c) (besides-marks m)
-
-      refused-marks : {e : Told} → Limited e → Refused k t e (tables (u .header) (t .names) (t .constants) (t .order) (u .table))
-      refused-marks {e} h = record {
-        names = refl;
-        constants = refl;
-        order = refl;
-        constant-count = constants-same;
-        key-count = keys-same;
-        thresholds = marked;
-        header = besides;
-        untouched = λ f. charged-too e h f;
-      }
-
-      -- it is kept, or not
-      refused-keys : {e : Told} {v : KeyTables} → Refuses (keyTables (u .header) (t .names) (t .constants) (t .order)) e v → Refused k t e (tables (v .header) (v .names) (v .constants) (v .order) (u .table))
-      refused-keys {e} {v} r = record {
-        names = r .names;
-        constants = r .constants;
-        order = r .order;
-        constant-count = ap (λ (n : Counts). n .constants) (charge-counts (r .charge)) ∙ constants-same;
-        key-count = ap (λ (n : Counts). n .keys) (charge-counts (r .charge)) ∙ keys-same;
-        thresholds = rw (charge-counts (r .charge)) marked;
-        header = besides-more besides (besides-charge (r .charge));
-        untouched = λ f. charged-too e (r .number) f;
-      }
-
-      accepted : Surrounds k (u .header .counts .thresholds) (u .table) → {id : ℕ} {v : KeyTables} →
-          Answers k (retains (u .header .budget .limits) k) (keyTables (u .header) (t .names) (t .constants) (t .order)) id v → Accepted k t id (tables (v .header) (v .names) (v .constants) (v .order) (u .table))
-      accepted q {id} {v} a = record {
-        constants = rw (constants-same, besides .spent .limits) at (a .constants);
-        thresholds = rw (a .thresholds) marked;
-        surrounds = rw (a .thresholds) q;
-        header = besides-more besides (a .header);
-      }
-
-module _ (k : Key) (typed : Typed k) (t : Tables) (keyed : Keyed (t .header .counts .constants) (t .header .counts .keys) (t .names) (t .constants) (t .order))
-    (rises : Rises (t .header .counts .thresholds) (t .thresholds)) where
-  -- where the four tests let the call pass
+  -- where the tests let it pass
   admitted : sizes (length (t .names)) (length (t .constants)) (length (t .order)) (length (t .thresholds)) ≡ true → leb (length (bytesOf k)) 64 ≡ true → spacious (t .header .counts) ≡ true →
-      Ends (Accepted k t) (Refused k t) ((inHeader (charged (work 1)) >> inMarks (classify k) >> inKeys (retain k)) t)
+      Ends (Accepted k t) (Declined k t) ((inHeader (charged (work 1)) >> inMarks (classify k) >> inKeys (retain k)) t)
   admitted z l r =
-      on-then (λ u. u .header) (λ u s. tables s (u .names) (u .constants) (u .order) (u .thresholds)) (λ u s. tables s (u .names) (u .constants) (u .order) (u .thresholds)) (λ e. e)
-      (charged (work 1)) (inMarks (classify k) >> inKeys (retain k)) t (pays (spends-work 1) (t .header))
-      (λ _ s c. charged-once c)
-      (λ e s c. refused-work k t rises (c .1) (c .0))
+      on-then _ _ _ _ _ (inMarks (classify k) >> inKeys (retain k)) t (pays (spends-work 1) (t .header)) (λ _ s c. charged-once c) (λ e s c. declined k t e (c .0) (still-charge k t (still-none k t rises) (c .1)))
     where
       lengths : (length (t .names) ≡ 65536) × (length (t .constants) ≡ 2048) × (length (t .order) ≡ 1024) × (length (t .thresholds) ≡ 4096)
-      lengths = sizes-yes (length (t .names)) (length (t .constants)) (length (t .order)) (length (t .thresholds)) z
+      lengths = sizes-yes _ _ _ _ z
 
       counts : (t .header .counts .constants < 1024) × ((t .header .counts .keys < 1024) × (t .header .counts .thresholds ≤ 4088))
       counts = room-yes (t .header .counts) r
@@ -548,33 +399,45 @@ module _ (k : Key) (typed : Typed k) (t : Tables) (keyed : Keyed (t .header .cou
       room : Room (t .header .counts .constants) (t .header .counts .keys) (t .names) (t .constants) (t .order)
       room = record { bytes = omega (arith, lengths .0, counts .0); pair = omega (arith, lengths .1, counts .0); place = omega (arith, lengths .2, counts .1 .0) }
 
-      charged-once : {s : Store} → Charging (t .header) s → Ends (Accepted k t) (Refused k t) ((inMarks (classify k) >> inKeys (retain k)) (tables s (t .names) (t .constants) (t .order) (t .thresholds)))
+      charged-once : {s : Store} → Charging (t .header) s → Ends (Accepted k t) (Declined k t) ((inMarks (classify k) >> inKeys (retain k)) (tables s (t .names) (t .constants) (t .order) (t .thresholds)))
       charged-once {s} c =
-          on-then (λ u. marks (u .header) (u .thresholds)) (λ u m. tables (m .header) (u .names) (u .constants) (u .order) (m .table)) (λ u m. tables (m .header) (u .names) (u .constants) (u .order) (m .table)) (λ e. e)
-          (classify k) (inKeys (retain k)) (tables s (t .names) (t .constants) (t .order) (t .thresholds))
+          on-then _ _ _ _ _ (inKeys (retain k)) (tables s (t .names) (t .constants) (t .order) (t .thresholds))
           (classify-marks k (marks s (t .thresholds)) (rw (charge-counts c) rises) (rw (charge-counts c) (omega (arith, lengths .3, counts .1 .1))))
-          (λ _ u h. classified (h .0) (h .1) (h .2))
-          (λ e u h. refused-marks k t rises c (h .1) (h .2) (h .0))
-        where
-          classified : {u : Marks} → Marking (marks s (t .thresholds)) u → MarkedIn k (marks s (t .thresholds)) u → Surrounds k (u .header .counts .thresholds) (u .table) →
-              Ends (Accepted k t) (Refused k t) (inKeys (retain k) (tables (u .header) (t .names) (t .constants) (t .order) (u .table)))
-          classified {u} m g q =
-              ends-through (λ u. keyTables (u .header) (u .names) (u .constants) (u .order)) (λ u v. tables (v .header) (v .names) (v .constants) (v .order) (u .thresholds))
-              (λ u v. tables (v .header) (v .names) (v .constants) (v .order) (u .thresholds)) (λ e. e) (retain k) (tables (u .header) (t .names) (t .constants) (t .order) (u .table))
-              (retain-keeps k (proper k typed (leb-true (length (bytesOf k)) 64 l)) (keyTables (u .header) (t .names) (t .constants) (t .order))
-              (rw (constants-same k t rises c m g, keys-same k t rises c m g) keyed) (rw (constants-same k t rises c m g, keys-same k t rises c m g) room))
-              (λ id v a. accepted k t rises c m g q a)
-              (λ e v a. refused-keys k t rises c m g a)
+          (λ _ u h. last (proper k typed (leb-true _ _ l)) room (still-marks k t c (h .0) (h .1)) (h .2))
+          (λ e u h. declined k t e (h .0) (still-marks k t c (h .1) (h .2)))
 
-  pub constant-keeps : Ends (Accepted k t) (Refused k t) (constantCall k t)
+  pub constant-keeps : Ends (Accepted k t) (Declined k t) (constantCall k t)
   unfolding constantCall
   constant-keeps =
       ends-test (sizes (length (t .names)) (length (t .constants)) (length (t .order)) (length (t .thresholds)))
       (λ z.
       ends-test (leb (length (bytesOf k)) 64)
-      (λ l.
-      ends-test (open? (t .header))
-      (λ _. ends-test (spacious (t .header .counts)) (λ r. admitted z l r) (λ _. stops (refused-first k t rises (told Full))))
-      (λ _. stops (refused-first k t rises (told Closed))))
-      (λ _. stops (refused-first k t rises (told Shape))))
-      (λ _. stops (refused-first k t rises (told Shape)))
+      (λ l. ends-test (open? (t .header)) (λ _. ends-test (spacious (t .header .counts)) (λ r. admitted z l r) (λ _. stops (declined-first k t rises _))) (λ _. stops (declined-first k t rises _)))
+      (λ _. stops (declined-first k t rises _)))
+      (λ _. stops (declined-first k t rises _))
+
+-- ---- what follows
+
+-- a call that is turned down leaves the constants in order too
+pub declined-keyed : {k : Key} {t t′ : Tables} {e : Told} → Declined k t e t′ → Keyed (t .header .counts .constants) (t .header .counts .keys) (t .names) (t .constants) (t .order) →
+    Keyed (t′ .header .counts .constants) (t′ .header .counts .keys) (t′ .names) (t′ .constants) (t′ .order)
+declined-keyed d w = rw (d .names, d .constants, d .order, d .still .constants, d .still .keys) w
+
+-- the id of a retained key is that of the older constant that has it, if there is one, and then no constant is new
+module _ {k : Key} {t t′ : Tables} {id : ℕ} (a : Accepted k t id t′) (r : retains (t .header .budget .limits) k ≡ true) (j : ℕ) (h : j < t .header .counts .constants)
+    (held : Retained (t .constants) j) (e : keyAt (t .names) (t .constants) j ≡ k) where
+  pub old-id : id ≡ j
+  old-id =
+      one-id (t′ .names) (t′ .constants) (t′ .order) (a .constants .keyed) k id j (a .constants .within) (go (a .constants .numbered) h) (a .constants .kept r .0)
+      (rw (a .constants .kinds j h) held) (a .constants .kept r .1) (a .constants .keys j h ∙ e)
+    where
+      go : {n n′ : ℕ} → Numbered n id n′ → j < n → j < n′
+      go (again l f) = omega arith
+      go (newly l f) = omega arith
+
+  pub none-new : t′ .header .counts .constants ≡ t .header .counts .constants
+  none-new = go (a .constants .numbered) old-id
+    where
+      go : Numbered (t .header .counts .constants) id (t′ .header .counts .constants) → id ≡ j → t′ .header .counts .constants ≡ t .header .counts .constants
+      go (again l f) g = f
+      go (newly l f) g = absurd (omega arith)

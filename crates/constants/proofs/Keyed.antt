@@ -1,19 +1,29 @@
 -- The key order holds exactly the retained constants, in the reader's order, so that a key has one id and the search for it is complete.
 -- A new constant, retained or not, keeps it so.
-use Prim.Native.Nat.{ℕ, _+_, _-_, _*_, _≤_, _<_}
+use Prim.Native.Nat.{ℕ, zero, suc, _+_, _-_, _*_, _≤_, _<_}
 use native.Mathlib.Omega.{arith}
 use native.Mathlib.Decide.{decLt}
 use mathlib.Core.Path.{_≡_, refl, sym, ap, _∙_}
 use mathlib.Core.Logic.{_⊎_, inl, inr}
+use mathlib.Core.Bool.{Bool, true, false, cond}
 use mathlib.Core.List.{List, []}
+use lib.Dec.{leb, ltb}
 use lib.ListN.{length, getD}
 use Rattle.integers.specs.Order.{Number}
 use Rattle.integers.specs.Lists.{inserted}
 use Rattle.integers.proofs.ListLaws.{Compared, less, more, same, compared}
 use Rattle.integers.proofs.Insertion.{inserted-below, inserted-at, inserted-above}
-use Rattle.limits.proofs.Monad.{Ensures, weaken}
-use Rattle.search.specs.declared.Ordering.the-variants.{Less, Equal}
-use Rattle.search.specs.Seek.{Place, found, absent}
+use Rattle.limits.specs.declared.Resource.the-variants.{Work}
+use Rattle.limits.specs.declared.Stop.{Stop}
+use Rattle.limits.specs.declared.Charged.the-variants.{Paid, Stopped}
+use Rattle.limits.specs.Charge.{stopOf, chargeOf}
+use Rattle.limits.specs.Metered.{Run, going, stopped, Metered, pure, _>>_}
+use Rattle.limits.specs.Meter.{Meter, withWork, charged, work}
+use Rattle.limits.proofs.Monad.{Holds, Ensures, weaken}
+use Rattle.limits.proofs.Ends.{Ends, completes, stops, ends-pure, ends-then}
+use Rattle.search.specs.declared.Ordering.{Ordering}
+use Rattle.search.specs.declared.Ordering.the-variants.{Less, Equal, Greater}
+use Rattle.search.specs.Seek.{Place, found, absent, by, middle, seek}
 use Rattle.search.proofs.Total.{alike}
 use Rattle.search.proofs.Complete as search
 use Rattle.keys.specs.Key.{Key, number, name, compareKeys, kindAt, payloadAt, keyAt, putCells, putName, probe, seekKey}
@@ -63,6 +73,35 @@ unretained : (cells : List ℕ) (id : ℕ) → kindAt cells id ≡ 0 → Retaine
 unretained cells id e (inl h) = omega arith
 unretained cells id e (inr h) = omega arith
 
+-- ---- a search is stopped by nothing but work
+
+work-stops : (n : ℕ) (s : Meter) → Ends (λ _ _. Unit {0}) (λ e _. e .resource ≡ Work) (work n s)
+unfolding work chargeOf
+work-stops n s = go (leb (s .work + n) (s .maxWork))
+  where
+    go : (t : Bool) → Ends (λ _ _. Unit {0}) (λ e _. e .resource ≡ Work) (charged (λ i. withWork i s) s (cond t (Paid (s .work + n)) (Stopped (stopOf Work (s .maxWork) (s .work + n)) (s .work))))
+    go true = completes tt
+    go false = stops refl
+
+abbrev Worked : Metered Stop Meter Place → Type 0
+Worked m = (s : Meter) → Ends (λ _ _. Unit {0}) (λ e _. e .resource ≡ Work) (m s)
+
+by-stops : (o : Ordering) (x y z : Metered Stop Meter Place) → Worked x → Worked y → Worked z → Worked (by o x y z)
+by-stops Less x y z f g h = f
+by-stops Equal x y z f g h = g
+by-stops Greater x y z f g h = h
+
+turn-stops : (t : Bool) (low : ℕ) (m : Metered Stop Meter Place) → Worked m → Worked (cond t (work 1 >> m) (pure (absent low)))
+turn-stops true low m h s = ends-then (work 1) m s (work-stops 1 s) (λ _ u _. h u) (λ e u f. f)
+turn-stops false low m h s = ends-pure (absent low) s tt
+
+seek-stops : (look : ℕ → Ordering) (turns low high : ℕ) → Worked (seek look turns low high)
+unfolding seek
+seek-stops look zero low high = λ s. ends-pure (absent low) s tt
+seek-stops look (suc f) low high =
+    turn-stops (ltb low high) low _
+    (by-stops (look (middle low high)) _ _ _ (seek-stops look f (middle low high + 1) high) (λ s. ends-pure (found (middle low high)) s tt) (seek-stops look f low (middle low high)))
+
 -- ---- a key has one id, and the search finds it
 
 module _ {n m : ℕ} (names cells order : List ℕ) (w : Keyed n m names cells order) where
@@ -94,9 +133,8 @@ module _ {n m : ℕ} (names cells order : List ℕ) (w : Keyed n m names cells o
   Finds id (found p) = (p < m) × (getD order p 0 ≡ id)
   Finds id (absent low) = ⊥
 
-  -- from any meter it ends there, or is stopped
-  pub search-complete : (k : Key) (id : ℕ) → id < n → Retained cells id → keyAt names cells id ≡ k → Ensures (Finds id) (seekKey names cells order m k)
-  search-complete k id h r e = go (w .all id h r)
+  finds : (k : Key) (id : ℕ) → id < n → Retained cells id → keyAt names cells id ≡ k → Ensures (Finds id) (seekKey names cells order m k)
+  finds k id h r e = go (w .all id h r)
     where
       go : Standing order m id → Ensures (Finds id) (seekKey names cells order m k)
       go x = weaken at-place (key-found names cells order m k (w .sorted) (x .0) (x .1) (ap (keyAt names cells) (x .2) ∙ e))
@@ -104,6 +142,15 @@ module _ {n m : ℕ} (names cells order : List ℕ) (w : Keyed n m names cells o
           at-place : (p : Place) → p ≡ found (x .0) → Finds id p
           at-place (found p) f = let g : p ≡ x .0 = cc in rw g (x .1, x .2)
           at-place (absent low) f = let z : _≡_ {A = ℕ} 0 1 = cc in absurd (omega arith)
+
+  -- from any meter it ends there, or is stopped for want of work
+  pub search-complete : (k : Key) (id : ℕ) → id < n → Retained cells id → keyAt names cells id ≡ k → (s : Meter) → Ends (λ p _. Finds id p) (λ e _. e .resource ≡ Work) (seekKey names cells order m k s)
+  unfolding seekKey
+  search-complete k id h r e s = go (seekKey names cells order m k s) (finds k id h r e .at s) (seek-stops (probe names cells order k) m 0 m s)
+    where
+      go : (x : Run Stop Meter Place) → Holds (Finds id) x → Ends (λ _ _. Unit {0}) (λ e _. e .resource ≡ Work) x → Ends (λ p _. Finds id p) (λ e _. e .resource ≡ Work) x
+      go (going p u) f g = completes f
+      go (stopped x u) f (stops g) = stops g
 
 -- ---- a new constant
 
@@ -191,25 +238,25 @@ module _ (n m : ℕ) (names cells order : List ℕ) (w : Keyed n m names cells o
     key-old i h = old-key names cells n (kindOf k) (payloadOf k) (bytesOf k) (proper-bytes k proper) i h
 
     -- a place of the longer order has the new id, or one that stood
-    data Holds (p : ℕ) : Type 0 where
-      new : getD order₁ p 0 ≡ n → Holds p
-      old : (q : ℕ) → q < m → getD order₁ p 0 ≡ getD order q 0 → Holds p
+    data From (p : ℕ) : Type 0 where
+      new : getD order₁ p 0 ≡ n → From p
+      old : (q : ℕ) → q < m → getD order₁ p 0 ≡ getD order q 0 → From p
 
-    holds : (p : ℕ) → p < m + 1 → Holds p
-    holds p h = go (compared p low)
+    from : (p : ℕ) → p < m + 1 → From p
+    from p h = go (compared p low)
       where
-        go : Compared p low → Holds p
+        go : Compared p low → From p
         go (less b) = old p (omega (arith, ended .0)) (inserted-below 0 order low m n p b)
         go (more b) =
             let e : (p - 1) + 1 ≡ p = omega arith in
             old (p - 1) (omega arith) (ap (λ (q : ℕ). getD order₁ q 0) (sym e) ∙ inserted-above 0 order low m n (ended .0) o (p - 1) (omega arith) (omega arith))
         go (same b) = new (ap (λ (q : ℕ). getD order₁ q 0) b ∙ inserted-at 0 order low m n (ended .0) o)
 
-    inside₁ : (p : ℕ) → Holds p → getD order₁ p 0 < n + 1
+    inside₁ : (p : ℕ) → From p → getD order₁ p 0 < n + 1
     inside₁ p (new e) = omega arith
     inside₁ p (old q h e) = omega (arith, w .inside q h)
 
-    held₁ : (p : ℕ) → Holds p → Retained cells₁ (getD order₁ p 0)
+    held₁ : (p : ℕ) → From p → Retained cells₁ (getD order₁ p 0)
     held₁ p (new e) = rw e (retained-new cells n k c)
     held₁ p (old q h e) = rw (e, kind-old (getD order q 0) (w .inside q h)) (w .held q h)
 
@@ -249,8 +296,8 @@ module _ (n m : ℕ) (names cells order : List ℕ) (w : Keyed n m names cells o
     pub keyed-key : Keyed (n + 1) (m + 1) names₁ cells₁ order₁
     keyed-key = record {
       fewer = omega (arith, w .fewer);
-      inside = λ p h. inside₁ p (holds p h);
-      held = λ p h. held₁ p (holds p h);
+      inside = λ p h. inside₁ p (from p h);
+      held = λ p h. held₁ p (from p h);
       sorted = sorted₁;
       all = every₁;
       kinds = kinds-more (kindOf k) (payloadOf k) (kind-few k);
