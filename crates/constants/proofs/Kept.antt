@@ -55,6 +55,11 @@ abbrev pub Surrounds : Key → ℕ → List ℤ → Type 0
 Surrounds (number v) n t = Stands n t v × (Number (v -ℤ pos 1) → Stands n t (v -ℤ pos 1)) × (Number (v +ℤ pos 1) → Stands n t (v +ℤ pos 1))
 Surrounds (name s) n t = Unit {0}
 
+-- the same in the words of thresholds/proofs/Sorted.antt
+pub surrounded : (v : ℤ) (s : Entry) → Surrounds (number v) (s .count) (s .table) → Surrounded v s
+surrounded v s h = h
+
+-- what a key leaves of n thresholds, whether all of its own are entered or not
 pub record Marked (k : Key) (n : ℕ) (t : List ℤ) (n′ : ℕ) (t′ : List ℤ) : Type 0 where
   -- in order again
   pub rises : Rises n′ t′
@@ -172,9 +177,9 @@ module _ (k : Key) (n m : ℕ) (names cells order : List ℕ) (w : Keyed n m nam
       within = omega arith;
       kept = λ _. (retained-new cells n k (r .pair), key-back names cells n k proper (r .pair) (r .bytes));
       large = λ e. let z : _≡_ {A = ℕ} 0 1 = cc in absurd (omega arith);
-      kinds = λ j l. old-kind names cells n (kindOf k) (payloadOf k) (bytesOf k) (proper-bytes k proper) j l;
-      payloads = λ j l. old-payload names cells n (kindOf k) (payloadOf k) (bytesOf k) (proper-bytes k proper) j l;
-      keys = λ j l. old-key names cells n (kindOf k) (payloadOf k) (bytesOf k) (proper-bytes k proper) j l;
+      kinds = λ j l. old-kind cells n (kindOf k) (payloadOf k) j l;
+      payloads = λ j l. old-payload cells n (kindOf k) (payloadOf k) j l;
+      keys = λ j l. old-key cells n (kindOf k) (payloadOf k) j l names (bytesOf k) (proper-bytes k proper);
       names-size = length-sets names (64 * n) (bytesOf k);
       cells-size = length-sets cells (2 * n) (kindOf k ∷ payloadOf k ∷ []);
       order-size = inserted-length 0 order low m n;
@@ -187,9 +192,9 @@ module _ (k : Key) (n m : ℕ) (names cells order : List ℕ) (w : Keyed n m nam
       within = omega arith;
       kept = λ e. let z : _≡_ {A = ℕ} 0 1 = cc in absurd (omega arith);
       large = λ _. (refl, kind-back cells n (r .pair) 0 0);
-      kinds = λ j l. old-kind names cells n 0 0 [] (omega arith) j l;
-      payloads = λ j l. old-payload names cells n 0 0 [] (omega arith) j l;
-      keys = λ j l. old-key names cells n 0 0 [] (omega arith) j l;
+      kinds = λ j l. old-kind cells n 0 0 j l;
+      payloads = λ j l. old-payload cells n 0 0 j l;
+      keys = λ j l. old-key cells n 0 0 j l names [] (omega arith);
       names-size = refl;
       cells-size = length-sets cells (2 * n) (0 ∷ 0 ∷ []);
       order-size = refl;
@@ -432,8 +437,8 @@ module _ {k : Key} {t t′ : Tables} {id : ℕ} (a : Accepted k t id t′) (r : 
       (rw (a .constants .kinds j h) held) (a .constants .kept r .1) (a .constants .keys j h ∙ e)
     where
       go : {n n′ : ℕ} → Numbered n id n′ → j < n → j < n′
-      go (again l f) = omega arith
-      go (newly l f) = omega arith
+      go (again l f) g = omega arith
+      go (newly l f) g = omega arith
 
   pub none-new : t′ .header .counts .constants ≡ t .header .counts .constants
   none-new = go (a .constants .numbered) old-id

@@ -104,6 +104,11 @@ seek-stops look (suc f) low high =
 
 -- ---- a key has one id, and the search finds it
 
+-- where the search for the key of an id ends: at a place of that id
+abbrev pub Finds : List ℕ → ℕ → ℕ → Place → Type 0
+Finds order m id (found p) = (p < m) × (getD order p 0 ≡ id)
+Finds order m id (absent low) = ⊥
+
 module _ {n m : ℕ} (names cells order : List ℕ) (w : Keyed n m names cells order) where
   apart : (k : Key) (p q : ℕ) → p < q → q < m → keyAt names cells (getD order p 0) ≡ k → keyAt names cells (getD order q 0) ≡ k → ⊥
   apart k p q h l e f =
@@ -128,42 +133,39 @@ module _ {n m : ℕ} (names cells order : List ℕ) (w : Keyed n m names cells o
           by-place (more b) = absurd (apart k (y .0) (x .0) b (x .1) second first)
           by-place (same b) = sym (x .2) ∙ ap (λ (p : ℕ). getD order p 0) b ∙ y .2
 
-  -- where the search for the key of an id ends: at a place of that id
-  abbrev pub Finds : ℕ → Place → Type 0
-  Finds id (found p) = (p < m) × (getD order p 0 ≡ id)
-  Finds id (absent low) = ⊥
-
-  finds : (k : Key) (id : ℕ) → id < n → Retained cells id → keyAt names cells id ≡ k → Ensures (Finds id) (seekKey names cells order m k)
+  finds : (k : Key) (id : ℕ) → id < n → Retained cells id → keyAt names cells id ≡ k → Ensures (Finds order m id) (seekKey names cells order m k)
   finds k id h r e = go (w .all id h r)
     where
-      go : Standing order m id → Ensures (Finds id) (seekKey names cells order m k)
+      go : Standing order m id → Ensures (Finds order m id) (seekKey names cells order m k)
       go x = weaken at-place (key-found names cells order m k (w .sorted) (x .0) (x .1) (ap (keyAt names cells) (x .2) ∙ e))
         where
-          at-place : (p : Place) → p ≡ found (x .0) → Finds id p
+          at-place : (p : Place) → p ≡ found (x .0) → Finds order m id p
           at-place (found p) f = let g : p ≡ x .0 = cc in rw g (x .1, x .2)
           at-place (absent low) f = let z : _≡_ {A = ℕ} 0 1 = cc in absurd (omega arith)
 
   -- from any meter it ends there, or is stopped for want of work
-  pub search-complete : (k : Key) (id : ℕ) → id < n → Retained cells id → keyAt names cells id ≡ k → (s : Meter) → Ends (λ p _. Finds id p) (λ e _. e .resource ≡ Work) (seekKey names cells order m k s)
+  pub search-complete : (k : Key) (id : ℕ) → id < n → Retained cells id → keyAt names cells id ≡ k → (s : Meter) → Ends (λ p _. Finds order m id p) (λ e _. e .resource ≡ Work) (seekKey names cells order m k s)
   unfolding seekKey
   search-complete k id h r e s = go (seekKey names cells order m k s) (finds k id h r e .at s) (seek-stops (probe names cells order k) m 0 m s)
     where
-      go : (x : Run Stop Meter Place) → Holds (Finds id) x → Ends (λ _ _. Unit {0}) (λ e _. e .resource ≡ Work) x → Ends (λ p _. Finds id p) (λ e _. e .resource ≡ Work) x
+      go : (x : Run Stop Meter Place) → Holds (Finds order m id) x → Ends (λ _ _. Unit {0}) (λ e _. e .resource ≡ Work) x → Ends (λ p _. Finds order m id p) (λ e _. e .resource ≡ Work) x
       go (going p u) f g = completes f
       go (stopped x u) f (stops g) = stops g
 
 -- ---- a new constant
 
-module _ (names cells : List ℕ) (n kind payload : ℕ) (text : List ℕ) (few : length text ≤ 64) (i : ℕ) (h : i < n) where
+-- what is written of it leaves the constants before it
+module _ (cells : List ℕ) (n kind payload i : ℕ) (h : i < n) where
   pub old-kind : kindAt (putCells cells n kind payload) i ≡ kindAt cells i
   old-kind = kind-kept cells n i kind payload (λ e. omega arith)
 
   pub old-payload : payloadAt (putCells cells n kind payload) i ≡ payloadAt cells i
   old-payload = payload-kept cells n i kind payload (λ e. omega arith)
 
-  pub old-key : keyAt (putName names n text) (putCells cells n kind payload) i ≡ keyAt names cells i
-  old-key = name-kept names n i text few (λ e. omega arith) (putCells cells n kind payload) ∙ cells-kept cells n i kind payload (λ e. omega arith) names
+  pub old-key : (names text : List ℕ) → length text ≤ 64 → keyAt (putName names n text) (putCells cells n kind payload) i ≡ keyAt names cells i
+  old-key names text few = name-kept names n i text few (λ e. omega arith) (putCells cells n kind payload) ∙ cells-kept cells n i kind payload (λ e. omega arith) names
 
+-- and its own key reads back
 pub key-back : (names cells : List ℕ) (n : ℕ) (k : Key) → Proper k → 2 * n + 2 ≤ length cells → 64 * n + 64 ≤ length names →
     keyAt (putName names n (bytesOf k)) (putCells cells n (kindOf k) (payloadOf k)) n ≡ k
 key-back names cells n (number v) p c l = number-back names cells n c v p
@@ -187,14 +189,14 @@ module _ (n m : ℕ) (names cells order : List ℕ) (w : Keyed n m names cells o
     kinds-more h i l = go (decLt i n)
       where
         go : Dec (i < n) → kindAt cells′ i ≤ 2
-        go (yes b) = rw (old-kind names cells n kind payload [] (omega arith) i b) (w .kinds i b)
+        go (yes b) = rw (old-kind cells n kind payload i b) (w .kinds i b)
         go (no b) = let e : i ≡ n = omega arith in rw (e, kind-back cells n c kind payload) h
 
     short-more : (kind ≡ 2 → payload ≤ 64) → (i : ℕ) → i < n + 1 → kindAt cells′ i ≡ 2 → payloadAt cells′ i ≤ 64
     short-more h i l f = go (decLt i n)
       where
         go : Dec (i < n) → payloadAt cells′ i ≤ 64
-        go (yes b) = rw (old-payload names cells n kind payload [] (omega arith) i b) (w .short i b (sym (old-kind names cells n kind payload [] (omega arith) i b) ∙ f))
+        go (yes b) = rw (old-payload cells n kind payload i b) (w .short i b (sym (old-kind cells n kind payload i b) ∙ f))
         go (no b) =
             let e : i ≡ n = omega arith in
             rw (e, payload-back cells n c kind payload) (h (sym (kind-back cells n c kind payload) ∙ ap (λ (j : ℕ). kindAt cells′ j) (sym e) ∙ f))
@@ -204,9 +206,9 @@ module _ (n m : ℕ) (names cells order : List ℕ) (w : Keyed n m names cells o
   keyed-large = record {
     fewer = omega (arith, w .fewer);
     inside = λ p h. omega (arith, w .inside p h);
-    held = λ p h. rw (old-kind names cells n 0 0 [] (omega arith) (getD order p 0) (w .inside p h)) (w .held p h);
+    held = λ p h. rw (old-kind cells n 0 0 (getD order p 0) (w .inside p h)) (w .held p h);
     sorted = λ p q h k.
-        rw (old-key names cells n 0 0 [] (omega arith) (getD order p 0) (w .inside p (omega arith)), old-key names cells n 0 0 [] (omega arith) (getD order q 0) (w .inside q k))
+        rw (old-key cells n 0 0 (getD order p 0) (w .inside p (omega arith)) names [] (omega arith), old-key cells n 0 0 (getD order q 0) (w .inside q k) names [] (omega arith))
         (w .sorted p q h k);
     all = every;
     kinds = kinds-more 0 0 (omega arith);
@@ -217,7 +219,7 @@ module _ (n m : ℕ) (names cells order : List ℕ) (w : Keyed n m names cells o
       every i h r = go (decLt i n)
         where
           go : Dec (i < n) → Standing order m i
-          go (yes b) = w .all i b (rw (old-kind names cells n 0 0 [] (omega arith) i b) at r)
+          go (yes b) = w .all i b (rw (old-kind cells n 0 0 i b) at r)
           go (no b) = let e : i ≡ n = omega arith in absurd (unretained (putCells cells n 0 0) n (kind-back cells n c 0 0) (rw e at r))
 
   -- one that is, where the search for its key ended
@@ -232,10 +234,10 @@ module _ (n m : ℕ) (names cells order : List ℕ) (w : Keyed n m names cells o
     order₁ = inserted order low m n
 
     kind-old : (i : ℕ) → i < n → kindAt cells₁ i ≡ kindAt cells i
-    kind-old i h = old-kind names cells n (kindOf k) (payloadOf k) [] (omega arith) i h
+    kind-old i h = old-kind cells n (kindOf k) (payloadOf k) i h
 
     key-old : (i : ℕ) → i < n → keyAt names₁ cells₁ i ≡ keyAt names cells i
-    key-old i h = old-key names cells n (kindOf k) (payloadOf k) (bytesOf k) (proper-bytes k proper) i h
+    key-old i h = old-key cells n (kindOf k) (payloadOf k) i h names (bytesOf k) (proper-bytes k proper)
 
     -- a place of the longer order has the new id, or one that stood
     data From (p : ℕ) : Type 0 where
