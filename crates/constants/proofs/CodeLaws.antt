@@ -61,9 +61,11 @@ module _ (n c o t : ℕ) where
       pub sized-is : o ≡ 1024 → eqb t 4096 ≡ sizes n c o t
       sized-is h = rw (eq-eqb n 65536 f, eq-eqb c 2048 g, eq-eqb o 1024 h)
 
-  -- of the sizes only that of the thresholds is used
-  sized-thresholds : sizes n c o t ≡ true → t ≡ 4096
-  sized-thresholds e = eqb-true t 4096 (and-right (eqb o 1024) _ (and-right (eqb c 2048) _ (and-right (eqb n 65536) _ e)))
+  pub sizes-yes : sizes n c o t ≡ true → (n ≡ 65536) × (c ≡ 2048) × (o ≡ 1024) × (t ≡ 4096)
+  sizes-yes h =
+      let j = and-right (eqb n 65536) _ h in
+      let k = and-right (eqb c 2048) _ j in
+      (eqb-true n 65536 (and-left (eqb n 65536) _ h), eqb-true c 2048 (and-left (eqb c 2048) _ j), eqb-true o 1024 (and-left (eqb o 1024) _ k), eqb-true t 4096 (and-right (eqb o 1024) _ k))
 
 module _ (n : Counts) where
   pub room-constants : 1024 ≤ n .constants → false ≡ spacious n
@@ -75,7 +77,7 @@ module _ (n : Counts) where
   pub room-is : n .constants < 1024 → n .keys < 1024 → leb (n .thresholds) 4088 ≡ spacious n
   room-is h k = rw (lt-ltb (n .constants) 1024 h, lt-ltb (n .keys) 1024 k)
 
-  room-yes : spacious n ≡ true → (n .constants < 1024) × ((n .keys < 1024) × (n .thresholds ≤ 4088))
+  pub room-yes : spacious n ≡ true → (n .constants < 1024) × ((n .keys < 1024) × (n .thresholds ≤ 4088))
   room-yes h =
       let k = and-right (ltb (n .constants) 1024) _ h in
       (ltb-true _ _ (and-left (ltb (n .constants) 1024) _ h), (ltb-true _ _ (and-left (ltb (n .keys) 1024) _ k), leb-true _ _ (and-right (ltb (n .keys) 1024) _ k)))
@@ -304,7 +306,7 @@ module _ {k : Key} {s : Store} {n c o : List ℕ} {t : List ℤ} (g : Passed k s
 
   module _ {u : Store} (p : going tt u ≡ charged (work 1) s) where
     pub call-marks : u .counts .thresholds + 3 ≤ length t
-    call-marks = rw (charged-counts (work 1) s p) (omega (arith, room-yes (s .counts) (g .room) .1 .1, sized-thresholds (length n) (length c) (length o) (length t) (g .sized)))
+    call-marks = rw (charged-counts (work 1) s p) (omega (arith, room-yes (s .counts) (g .room) .1 .1, sizes-yes (length n) (length c) (length o) (length t) (g .sized) .3))
 
     module _ {v : Store} {t′ : List ℤ} where
       pub call-unread : (r : Refusal) → stopped (told r) (marks v t′) ≡ classify k (marks u t) → stopped (told r) (tables v n c o t′) ≡ constantCall k (tables s n c o t)

@@ -1,1 +1,4 @@
 pub mod CodeLaws
+pub mod Keyed
+pub mod Steps
+pub mod Kept

@@ -92,7 +92,7 @@ live-by Less f g h = f
 live-by Equal f g h = g
 live-by Greater f g h = h
 
-live-seek : (probe : ℕ → Ordering) (turns low high : ℕ) → Lives 0 (λ _. 0) (seek probe turns low high)
+pub live-seek : (probe : ℕ → Ordering) (turns low high : ℕ) → Lives 0 (λ _. 0) (seek probe turns low high)
 unfolding seek
 live-seek probe zero low high = live-pure 0 (absent low) refl
 live-seek probe (suc f) low high =
