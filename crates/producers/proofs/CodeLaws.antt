@@ -482,11 +482,11 @@ module _ (r : Rule) (s : Store) {x : Done} (h : done x ≡ charged (work 1) s) w
       go (going a b) q = let z : _≡_ {A = ℕ} 0 1 = cc in absurd (omega arith)
       go (stopped t b) q = q
 
-  pub cost-second : (y : Done) {u : Store} {n : ℕ} → x ≡ Ok u → n ≡ r .slots + r .lengths .bindings + r .lengths .guards + r .lengths .heads + 1 → done y ≡ charged (links n) u → done y ≡ charged (cost r) s
+  pub cost-second : {u : Store} {y : Run Told Store (Unit {0})} → x ≡ Ok u → y ≡ charged (links (r .slots + r .lengths .bindings + r .lengths .guards + r .lengths .heads + 1)) u → y ≡ charged (cost r) s
   unfolding cost through mapped _>>_ _>>=_ after
-  cost-second y {u} e n k = go (work 1 (s .budget)) (sym (ap done e) ∙ h)
+  cost-second {u} {y} e k = go (work 1 (s .budget)) (sym (ap done e) ∙ h)
     where
       go : (z : Run Stop Budget (Unit {0})) → going tt u ≡ mapped (λ v. v) (λ v. v) (λ e. told (Limit e)) (mapped (λ b. withBudget b s) (λ b. withBudget b s) (λ e. e) z) →
-          done y ≡ mapped (λ v. v) (λ v. v) (λ e. told (Limit e)) (mapped (λ b. withBudget b s) (λ b. withBudget b s) (λ e. e) (after z (λ _. links (r .slots + r .lengths .bindings + r .lengths .guards + r .lengths .heads + 1))))
-      go (going a b) q = let w : u ≡ withBudget b s = cc in k ∙ rw (w, n)
+          y ≡ mapped (λ v. v) (λ v. v) (λ e. told (Limit e)) (mapped (λ b. withBudget b s) (λ b. withBudget b s) (λ e. e) (after z (λ _. links (r .slots + r .lengths .bindings + r .lengths .guards + r .lengths .heads + 1))))
+      go (going a b) q = let w : u ≡ withBudget b s = cc in k ∙ rw w
       go (stopped t b) q = let z : _≡_ {A = ℕ} 0 1 = cc in absurd (omega arith)

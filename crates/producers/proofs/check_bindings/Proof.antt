@@ -30,7 +30,7 @@ enum-known-stop : tie.Need-enum-known-stop Inv-loop μ-loop
 enum-known-stop c = search needs
 
 returns : tie.Need-returns Inv-loop μ-loop
-returns c = let n : length (c .before .before .before .before .before .before .before .args .t4) ≡ 32 = search needs in checking-stopped (λ b. checkBinding (c .before .before .before .before .before .before .before .args .arguments) (scope (c .before .before .before .before .before .before .before .args .nodes .now) (c .before .before .before .before .before .before .before .args .expressions) (c .before .before .before .before .before .before .before .args .slots)) (b .binding)) (record { binding = Positive 0 0 }) (c .before .before .before .before .before .before .before .args .t4) (c .before .before .before .before .before .before .before .args .count) (omega (arith, n, c .before .before .before .before .before .before .before .pre)) (c .before .before .before .before .before .loop .inv .1) (c .before .before .before .before .loop-test .taken) (c .before .before .before .charge .ensures) (c .before .stop .given .1)
+returns c = let n : length (c .before .before .before .before .before .before .before .args .t5) ≡ 32 = search needs in checking-stopped (λ b. checkBinding (c .before .before .before .before .before .before .before .args .arguments) (scope (c .before .before .before .before .before .before .before .args .nodes .now) (c .before .before .before .before .before .before .before .args .expressions) (c .before .before .before .before .before .before .before .args .slots)) (b .binding)) (record { binding = Positive 0 0 }) (c .before .before .before .before .before .before .before .args .t5) (c .before .before .before .before .before .before .before .args .count) (omega (arith, n, c .before .before .before .before .before .before .before .pre)) (c .before .before .before .before .before .loop .inv .1) (c .before .before .before .before .loop-test .taken) (c .before .before .before .charge .ensures) (c .before .stop .given .1)
 
 enum-known-now : tie.Need-enum-known-now Inv-loop μ-loop
 enum-known-now c = search needs
@@ -48,7 +48,7 @@ enum-known-refusal : tie.Need-enum-known-refusal Inv-loop μ-loop
 enum-known-refusal c = search needs
 
 returns-2 : tie.Need-returns-2 Inv-loop μ-loop
-returns-2 c = let n : length (c .before .before .before .before .before .before .before .before .before .before .before .before .args .t4) ≡ 32 = search needs in checking-refused (λ b. checkBinding (c .before .before .before .before .before .before .before .before .before .before .before .before .args .arguments) (scope (c .before .before .before .before .before .before .before .before .before .before .before .before .args .nodes .now) (c .before .before .before .before .before .before .before .before .before .before .before .before .args .expressions) (c .before .before .before .before .before .before .before .before .before .before .before .before .args .slots)) (b .binding)) (record { binding = Positive 0 0 }) (c .before .before .before .before .before .before .before .before .before .before .before .before .args .t4) (c .before .before .before .before .before .before .before .before .before .before .before .before .args .count) (omega (arith, n, c .before .before .before .before .before .before .before .before .before .before .before .before .pre)) (c .before .before .before .before .before .before .before .before .before .before .loop .inv .1) (c .before .before .before .before .before .before .before .before .before .loop-test .taken) (c .before .before .before .before .before .before .before .before .charge .ensures) (c .before .before .before .before .before .before .now .given .1) (c .before .before .before .check-binding .ensures) (c .before .refusal .given .1)
+returns-2 c = let n : length (c .before .before .before .before .before .before .before .before .before .before .before .before .args .t5) ≡ 32 = search needs in checking-refused (λ b. checkBinding (c .before .before .before .before .before .before .before .before .before .before .before .before .args .arguments) (scope (c .before .before .before .before .before .before .before .before .before .before .before .before .args .nodes .now) (c .before .before .before .before .before .before .before .before .before .before .before .before .args .expressions) (c .before .before .before .before .before .before .before .before .before .before .before .before .args .slots)) (b .binding)) (record { binding = Positive 0 0 }) (c .before .before .before .before .before .before .before .before .before .before .before .before .args .t5) (c .before .before .before .before .before .before .before .before .before .before .before .before .args .count) (omega (arith, n, c .before .before .before .before .before .before .before .before .before .before .before .before .pre)) (c .before .before .before .before .before .before .before .before .before .before .loop .inv .1) (c .before .before .before .before .before .before .before .before .before .loop-test .taken) (c .before .before .before .before .before .before .before .before .charge .ensures) (c .before .before .before .before .before .before .now .given .1) (c .before .before .before .check-binding .ensures) (c .before .refusal .given .1)
 
 enum-known-now-2 : tie.Need-enum-known-now-2 Inv-loop μ-loop
 enum-known-now-2 c = search needs
@@ -60,10 +60,10 @@ loop-less : tie.Need-loop-less Inv-loop μ-loop
 loop-less c = search needs
 
 loop-again : tie.Need-loop-again Inv-loop μ-loop
-loop-again c = let n : length (c .before .before .before .before .before .before .before .before .before .before .before .before .args .t4) ≡ 32 = search needs in (omega arith, checking-more (λ b. checkBinding (c .before .before .before .before .before .before .before .before .before .before .before .before .args .arguments) (scope (c .before .before .before .before .before .before .before .before .before .before .before .before .args .nodes .now) (c .before .before .before .before .before .before .before .before .before .before .before .before .args .expressions) (c .before .before .before .before .before .before .before .before .before .before .before .before .args .slots)) (b .binding)) (record { binding = Positive 0 0 }) (c .before .before .before .before .before .before .before .before .before .before .before .before .args .t4) (c .before .before .before .before .before .before .before .before .before .before .before .before .args .count) (omega (arith, n, c .before .before .before .before .before .before .before .before .before .before .before .before .pre)) (c .before .before .before .before .before .before .before .before .before .before .loop .inv .1) (c .before .before .before .before .before .before .before .before .before .loop-test .taken) (c .before .before .before .before .before .before .before .before .charge .ensures) (c .before .before .before .before .before .before .now .given .1) (c .before .before .before .check-binding .ensures) (c .before .now2 .given .1))
+loop-again c = let n : length (c .before .before .before .before .before .before .before .before .before .before .before .before .args .t5) ≡ 32 = search needs in (omega arith, checking-more (λ b. checkBinding (c .before .before .before .before .before .before .before .before .before .before .before .before .args .arguments) (scope (c .before .before .before .before .before .before .before .before .before .before .before .before .args .nodes .now) (c .before .before .before .before .before .before .before .before .before .before .before .before .args .expressions) (c .before .before .before .before .before .before .before .before .before .before .before .before .args .slots)) (b .binding)) (record { binding = Positive 0 0 }) (c .before .before .before .before .before .before .before .before .before .before .before .before .args .t5) (c .before .before .before .before .before .before .before .before .before .before .before .before .args .count) (omega (arith, n, c .before .before .before .before .before .before .before .before .before .before .before .before .pre)) (c .before .before .before .before .before .before .before .before .before .before .loop .inv .1) (c .before .before .before .before .before .before .before .before .before .loop-test .taken) (c .before .before .before .before .before .before .before .before .charge .ensures) (c .before .before .before .before .before .before .now .given .1) (c .before .before .before .check-binding .ensures) (c .before .now2 .given .1))
 
 returns-3 : tie.Need-returns-3 Inv-loop μ-loop
-returns-3 c = checking-all (λ b. checkBinding (c .before .before .before .args .arguments) (scope (c .before .before .before .args .nodes .now) (c .before .before .before .args .expressions) (c .before .before .before .args .slots)) (b .binding)) (c .before .before .before .args .t4) (c .before .loop .inv .1) (c .loop-test .left)
+returns-3 c = checking-all (λ b. checkBinding (c .before .before .before .args .arguments) (scope (c .before .before .before .args .nodes .now) (c .before .before .before .args .expressions) (c .before .before .before .args .slots)) (b .binding)) (c .before .before .before .args .t5) (c .before .loop .inv .1) (c .loop-test .left)
 
 pub check-bindings-spec : {M : Type 1} → statement M
 check-bindings-spec =
