@@ -1,3 +1,4 @@
+-- `producers::check_bindings` meets its contract.
 use Rattle.producers.proofs.CodeLaws.{Checking, checking-none, checking-stopped, checking-refused, checking-more, checking-all}
 use Rattle.producers.specs.Producer.{scope, each, checkBinding}
 use Rattle.rules.specs.declared.Binding.the-variants.{Positive}
@@ -8,10 +9,6 @@ use borrow.Author.Needs.{needs}
 use native.Mathlib.Omega.{arith}
 use Rattle.producers.proofs.check_bindings.Statement.{statement}
 use Rattle.producers.proofs.check_bindings.Tie as tie
-use Rattle.producers.proofs.check_bindings.Reads as reads
-use Rattle.producers.proofs.check_bindings.Lts as lts
-use Rattle.limits.proofs.charge.Reads as charge-reads
-use Rattle.producers.proofs.check_binding.Reads as check-binding-reads
 
 abbrev Inv-loop : tie.InvT-loop
 Inv-loop nodes expressions arguments slots count work max-work bindings i₀ spent₀ i spent =

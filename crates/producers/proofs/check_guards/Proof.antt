@@ -1,3 +1,4 @@
+-- `producers::check_guards` meets its contract.
 use Rattle.producers.proofs.CodeLaws.{Checking, checking-none, checking-stopped, checking-refused, checking-more, checking-all}
 use Rattle.producers.specs.Producer.{scope, each, checkGuard}
 use Rattle.rules.specs.declared.Relation.the-variants.{Lt}
@@ -9,10 +10,6 @@ use borrow.Author.Needs.{needs}
 use native.Mathlib.Omega.{arith}
 use Rattle.producers.proofs.check_guards.Statement.{statement}
 use Rattle.producers.proofs.check_guards.Tie as tie
-use Rattle.producers.proofs.check_guards.Reads as reads
-use Rattle.producers.proofs.check_guards.Lts as lts
-use Rattle.limits.proofs.charge.Reads as charge-reads
-use Rattle.producers.proofs.check_guard.Reads as check-guard-reads
 
 abbrev Inv-loop : tie.InvT-loop
 Inv-loop nodes expressions slots count work max-work guards i₀ spent₀ i spent =

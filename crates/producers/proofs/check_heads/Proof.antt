@@ -1,6 +1,6 @@
+-- `producers::check_heads` meets its contract.
 use Rattle.producers.proofs.CodeLaws.{Heading, heading-none, heading-room, heading-stop, heading-more, heading-all}
 use Rattle.producers.specs.Producer.{scope, checkHeads}
-use Rattle.rules.specs.declared.Head.{Head}
 use lib.ListN.{length, take}
 use mathlib.Core.Path.{_≡_, refl, _∙_}
 use Prim.Native.Nat.{_-_, _≤_}
@@ -8,9 +8,6 @@ use borrow.Author.Needs.{needs}
 use native.Mathlib.Omega.{arith}
 use Rattle.producers.proofs.check_heads.Statement.{statement}
 use Rattle.producers.proofs.check_heads.Tie as tie
-use Rattle.producers.proofs.check_heads.Reads as reads
-use Rattle.producers.proofs.check_heads.Lts as lts
-use Rattle.producers.proofs.check_head.Reads as check-head-reads
 
 abbrev Inv-loop : tie.InvT-loop
 Inv-loop nodes expressions slots count records₀ heads i₀ left₀ records i left =
