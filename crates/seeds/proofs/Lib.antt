@@ -1,3 +1,4 @@
 pub mod CodeLaws
 pub mod CallLaws
 pub mod Seeded
+pub mod Kept
