@@ -24,7 +24,11 @@ use Rattle.limits.specs.declared.Budget.{Budget}
 use Rattle.limits.specs.declared.Refusal.the-variants.{Limit, Descending}
 use Rattle.limits.specs.Refusal.{Told, told, resourceNumber}
 use Rattle.limits.specs.Metered.{Run, going, stopped, Metered, pure, _>>_, mapped, through}
-use Rattle.limits.specs.Budget.{work, links, released, widenedOnce}
+use Rattle.limits.specs.declared.Charged.the-variants.{Paid, Stopped}
+use Rattle.limits.specs.Charge.{chargeOf}
+use Rattle.limits.specs.Records.{limitOf, countOf, withCount, withStatistics}
+use Rattle.limits.specs.Budget.{charge, work, links, released, widenedOnce}
+use Rattle.limits.specs.Budget as budgets
 use Rattle.limits.specs.Meter.{Meter, meterOf, withMeter, metered, holding}
 use Rattle.limits.specs.Meter as meters
 use Rattle.limits.proofs.Monad.{Ensures, Holds, by-through}
@@ -34,7 +38,7 @@ use Rattle.interval.specs.declared.Interval.the-variants.{Bounded}
 use Rattle.interval.specs.declared.Constant.the-variants.{Number as number}
 use Rattle.lattice.specs.Value.{Value}
 use Rattle.lattice.specs.Constants.{constantAt}
-use Rattle.lattice.specs.Lattice.{numeric, constant, join}
+use Rattle.lattice.specs.Lattice.{bottom, numeric, constant, join}
 use Rattle.lattice.proofs.Joins.{joinedList, joinedValue, join-is}
 use Rattle.lattice.proofs.LiveLaws.{size, constant-lives, join-lives}
 use Rattle.rows.specs.Row.{row, listOf, valueAt, put}
@@ -42,14 +46,16 @@ use Rattle.rows.proofs.RowLaws.{length-put}
 use Rattle.store.specs.declared.Context.{Context}
 use Rattle.store.specs.declared.Context.the-variants.{None, Some}
 use Rattle.store.specs.declared.Store.{Store}
-use Rattle.store.specs.Store.{withBudget, withProvenance}
-use Rattle.store.specs.Calls.{open?, charged, Marks, marks, entering}
+use Rattle.store.specs.Store.{withBudget, withPredicate, withProvenance}
+use Rattle.store.specs.Calls.{open?, charged, Marks, marks, entering, declared, roomFor, addPredicate, predicateCall}
+use Rattle.store.specs.Calls as store
+use Rattle.store.proofs.CodeLaws.{room-yes}
 use Rattle.store.proofs.Frame.{Spent, spends-work, spends-links, Marking, entering-left, ending-ends}
 use Rattle.thresholds.specs.Thresholds.{Entry, entry, around}
 use Rattle.thresholds.proofs.Sorted.{Rises, Has, Kept, Near, Surrounded, around-keeps}
 use Rattle.provenance.specs.Provenance.{Records, records, recordIn, provenance, recordable}
 use Rattle.seeds.specs.Seed.{entriesOf, loses, dropped, joined, Rows, rows, seed, constantValue, seedConstant, sizes, spacious, Tables, tables, inHeader, inRecords, inRows, seedValueCall, ends, seedEnds, IntervalTables, intervalTables, inTables, inEnds, seedIntervalCall}
-use Rattle.seeds.proofs.Seeded.{Regular, Seeded, entriesIn, Live, Lost, lost, regular-numeric, regular-constant, regular-join, lost-step, old-part, seeded-put, live-put, lost-put}
+use Rattle.seeds.proofs.Seeded.{Regular, Seeded, entriesIn, Live, Lost, lost, regular-numeric, regular-constant, regular-join, lost-step, old-part, seeded-put, live-put, lost-put, bottoms-length, bottoms-old, bottoms-new, seeded-bottoms, live-bottoms, lost-bottoms}
 
 -- ---- a store with its seeds
 
@@ -840,3 +846,120 @@ module _ (constants : List ℕ) (a : ℕ) (low high : ℤ) (t : IntervalTables) 
       (λ _. early-interval _))
       (λ _. early-interval _))
       (λ _. early-interval _)
+
+-- ---- `predicate`
+
+-- a budget that was charged
+abbrev pub billed : Resource → ℕ → Budget → Budget
+billed r n b = withStatistics (withCount r (countOf r (b .statistics) + n) (b .statistics)) b
+
+charge-ends : (r : Resource) (n : ℕ) (b : Budget) → Ends (λ _ c. c ≡ billed r n b) (λ _ c. c ≡ b) (charge r n b)
+unfolding charge chargeOf
+charge-ends r n b = go (leb (countOf r (b .statistics) + n) (limitOf r (b .limits))) _ _
+  where
+    go : (t : Bool) (e : Stop) (k : ℕ) → Ends (λ _ c. c ≡ billed r n b) (λ _ c. c ≡ b) (budgets.charged r b (cond t (Paid (countOf r (b .statistics) + n)) (Stopped e k)))
+    go true e k = completes refl
+    go false e k = stops refl
+
+declared-ends : (arity : ℕ) (b : Budget) → Ends (λ _ c. c ≡ billed Work arity (billed Positions arity (billed Predicates 1 b))) (λ _ c. c ≡ b) (declared arity b)
+unfolding declared
+declared-ends arity b =
+    ends-through (λ s. s) (λ _ c. c) (λ s _. s) (λ e. e) {Q = λ _ _. Unit {0}} _ b
+    (ends-then _ _ b (charge-ends Predicates 1 b)
+    (λ _ c p. rw p
+    (ends-then _ _ (billed Predicates 1 b) (charge-ends Positions arity (billed Predicates 1 b))
+    (λ _ d q. rw q (ends-as (charge-ends Work arity (billed Positions arity (billed Predicates 1 b))) (λ _ e r. r) (λ _ e r. tt)))
+    (λ _ d q. tt)))
+    (λ _ c p. tt))
+    (λ _ c p. p)
+    (λ _ c p. refl)
+
+-- accepted
+pub record PredicateTaken (constants : List ℕ) (arity id : ℕ) (t t′ : store.Tables) : Type 0 where
+  -- all that holds of the seeds holds for the new arguments as well
+  pub standing : Standing constants (t′ .header) (t′ .seeds)
+  -- the old arguments keep their seeds, the new ones have nothing
+  pub old : (a : ℕ) → a < t .header .counts .positions → valueAt (t′ .seeds) a ≡ valueAt (t .seeds) a
+  pub new : (a : ℕ) → t .header .counts .positions ≤ a → a < t .header .counts .positions + arity → valueAt (t′ .seeds) a ≡ bottom
+  pub size : length (t′ .seeds) ≡ length (t .seeds)
+  -- the answer, the new row and the room that there was
+  pub answer : id ≡ t .header .counts .predicates
+  pub rows : t′ .rows ≡ sets (t .rows) (2 * t .header .counts .predicates) (t .header .counts .positions ∷ arity ∷ [])
+  pub few : t .header .counts .predicates < 64
+  pub most : t .header .counts .positions + arity ≤ 256
+  -- the header: one predicate and its arguments more, which were charged, with their work
+  pub header : t′ .header ≡ withPredicate arity (withBudget (billed Work arity (billed Positions arity (billed Predicates 1 (billed Work 1 (t .header .budget))))) (t .header))
+
+-- refused: nothing is changed but for one unit of work, and with number 1 or 2 not even that
+pub record PredicateRefused (x : Told) (t t′ : store.Tables) : Type 0 where
+  pub left : (t′ ≡ t) ⊎ (t′ ≡ store.tables (withBudget (billed Work 1 (t .header .budget)) (t .header)) (t .rows) (t .seeds))
+  pub quiet : Quiet 0 0 (t .header) (t′ .header)
+  pub whole : x .number ≤ 2 → t′ ≡ t
+
+module _ (constants : List ℕ) (arity : ℕ) (t : store.Tables) (stands : Standing constants (t .header) (t .seeds)) where
+  early-predicate : (x : Told) → Ends (λ id u. PredicateTaken constants arity id t u) (λ y u. PredicateRefused y t u) (stopped x t)
+  early-predicate x = stops record { left = inl refl; quiet = quiet-bill (t .header) (same-bill (t .header .budget)); whole = λ _. refl }
+
+  abbrev worked : Store
+  worked = withBudget (billed Work 1 (t .header .budget)) (t .header)
+
+  work-bill : Bill (t .header .budget .statistics .entries) (t .header .budget) (billed Work 1 (t .header .budget))
+  work-bill = record { kin = record { limits = refl; predicates = refl; positions = refl; rounds = refl }; entries = refl; widened = refl }
+
+  module _ (rows : t .header .counts .predicates < 64) (fits : t .header .counts .positions + arity ≤ 256) (size : length (t .seeds) ≡ row * 256) where
+    added : (u : store.Tables) → u ≡ store.tables (withBudget (billed Work arity (billed Positions arity (billed Predicates 1 (billed Work 1 (t .header .budget))))) (t .header)) (t .rows) (t .seeds) →
+        Ends (λ id w. PredicateTaken constants arity id t w) (λ y w. PredicateRefused y t w) (addPredicate arity u)
+    added u e =
+        let room : row * (t .header .counts .positions + arity) ≤ length (t .seeds) = omega arith in
+        rw e
+        (completes record {
+          standing = record {
+            seeded = seeded-bottoms (t .seeds) (t .header .counts .positions) arity room _ _ constants (stands .seeded);
+            live = live-bottoms (t .seeds) (t .header .counts .positions) arity room _ (stands .live);
+            lost = lost-bottoms (t .seeds) (t .header .counts .positions) arity room _ (stands .lost);
+          };
+          old = λ a l. bottoms-old (t .seeds) (t .header .counts .positions) arity a l;
+          new = λ a l m. bottoms-new (t .seeds) (t .header .counts .positions) arity a room l m;
+          size = bottoms-length (t .seeds) (t .header .counts .positions) arity;
+          answer = refl;
+          rows = refl;
+          few = rows;
+          most = fits;
+          header = refl;
+        })
+
+  pub predicate-kept : Ends (λ id u. PredicateTaken constants arity id t u) (λ x u. PredicateRefused x t u) (predicateCall arity t)
+  unfolding predicateCall
+  predicate-kept =
+      ends-test (eqb (length (t .rows)) 128 && eqb (length (t .seeds)) (row * 256))
+      (λ e.
+      let z : length (t .seeds) ≡ row * 256 = eqb-true (length (t .seeds)) (row * 256) (and-right (eqb (length (t .rows)) 128) _ e) in
+      ends-test (open? (t .header))
+      (λ _.
+      ends-test (roomFor (t .header .counts .predicates) (t .header .counts .positions) arity)
+      (λ f.
+      let g = room-yes (t .header .counts .predicates) (t .header .counts .positions) arity refl f in
+      ends-then _ _ t
+      (ends-through (λ w. w .header) (λ w s. store.tables s (w .rows) (w .seeds)) (λ w s. store.tables s (w .rows) (w .seeds)) (λ y. y)
+      {R = λ _ u. u ≡ store.tables worked (t .rows) (t .seeds)}
+      {U = λ x u. PredicateRefused x t u}
+      (charged (work 1)) t
+      (charged-ends (work 1) (t .header) (charge-ends Work 1 (t .header .budget)))
+      (λ _ s q. rw (q .2, q .1))
+      (λ x s q. rw (q .4, q .3) record { left = inl refl; quiet = quiet-bill (t .header) (same-bill (t .header .budget)); whole = λ _. refl }))
+      (λ _ u p.
+      rw p
+      (ends-then _ _ (store.tables worked (t .rows) (t .seeds))
+      (ends-through (λ w. w .header) (λ w s. store.tables s (w .rows) (w .seeds)) (λ w s. store.tables s (w .rows) (w .seeds)) (λ y. y)
+      {R = λ _ u. u ≡ store.tables (withBudget (billed Work arity (billed Positions arity (billed Predicates 1 (billed Work 1 (t .header .budget))))) (t .header)) (t .rows) (t .seeds)}
+      {U = λ x u. PredicateRefused x t u}
+      (charged (declared arity)) (store.tables worked (t .rows) (t .seeds))
+      (charged-ends (declared arity) worked (declared-ends arity (worked .budget)))
+      (λ _ s q. rw (q .2, q .1))
+      (λ x s q. rw (q .4, q .3) record { left = inr refl; quiet = quiet-bill (t .header) work-bill; whole = λ l. absurd (omega (arith, q .0)) }))
+      (λ _ w q. added (g .0) (g .1) z w q)
+      (λ x w q. q)))
+      (λ x u q. q))
+      (λ _. early-predicate _))
+      (λ _. early-predicate _))
+      (λ _. early-predicate _)

@@ -36,7 +36,8 @@ use Rattle.lattice.specs.Lattice.{bottom, numeric, retained, constant}
 use Rattle.lattice.proofs.Joins.{joinedList, joinedValue}
 use Rattle.rows.specs.Row.{row, valueAt, put}
 use Rattle.rows.specs.WellFormed.{Proper, Short, WellFormed}
-use Rattle.rows.proofs.RowLaws.{put-back, put-other}
+use Rattle.rows.proofs.RowLaws.{length-put, put-back, put-other}
+use Rattle.store.specs.Calls.{bottoms}
 use Rattle.seeds.specs.Seed.{entriesOf, loses}
 
 -- ---- what a seed is
@@ -309,3 +310,59 @@ module _ (positions : ℕ) (seeds : List ℕ) (a : ℕ) (v : Value) (inside : a 
 
   pub lost-put : (n n′ : ℕ) → WellFormed v → Lost n positions seeds → n′ + lost (valueAt seeds a .values) ≤ n + lost (v .values) → Lost n′ positions (put seeds a v)
   lost-put n n′ w h q = omega (arith, sum-put (λ x. lost (x .values)) w)
+
+-- ---- new arguments, with nothing seeded
+
+-- numbers that are 0 add nothing
+total-beyond : (f g : ℕ → ℕ) (from n : ℕ) → ((i : ℕ) → i < from → g i ≡ f i) → ((i : ℕ) → from ≤ i → i < from + n → g i ≡ 0) → total g (from + n) ≡ total f from
+unfolding total
+total-beyond f g from zero h z = let e : from + 0 ≡ from = omega arith in ap (total g) e ∙ total-same f g from h
+total-beyond f g from (suc n) h z =
+    let e : from + suc n ≡ suc (from + n) = omega arith in
+    let s = total-beyond f g from n h (λ i l m. z i l (omega arith)) in
+    let d = z (from + n) (omega arith) (omega arith) in
+    ap (total g) e ∙ omega arith
+
+pub bottoms-length : (seeds : List ℕ) (from n : ℕ) → length (bottoms seeds from n) ≡ length seeds
+unfolding bottoms
+bottoms-length seeds from zero = refl
+bottoms-length seeds from (suc n) = length-put (bottoms seeds from n) (from + n) bottom ∙ bottoms-length seeds from n
+
+-- the arguments before them keep their seeds
+pub bottoms-old : (seeds : List ℕ) (from n i : ℕ) → i < from → valueAt (bottoms seeds from n) i ≡ valueAt seeds i
+unfolding bottoms
+bottoms-old seeds from zero i l = refl
+bottoms-old seeds from (suc n) i l = put-other (bottoms seeds from n) (from + n) bottom i (λ e. omega arith) ∙ bottoms-old seeds from n i l
+
+pub bottoms-new : (seeds : List ℕ) (from n i : ℕ) → row * (from + n) ≤ length seeds → from ≤ i → i < from + n → valueAt (bottoms seeds from n) i ≡ bottom
+unfolding bottoms
+bottoms-new seeds from zero i h l m = absurd (omega arith)
+bottoms-new seeds from (suc n) i h l m = elim (ℕ-discrete i (from + n)) [
+  | yes e ↦
+      ap (valueAt (put (bottoms seeds from n) (from + n) bottom)) e
+      ∙ put-back (bottoms seeds from n) (from + n) bottom (omega (arith, bottoms-length seeds from n)) (regular-bottom 0 0 [] .formed)
+  | no d ↦ put-other (bottoms seeds from n) (from + n) bottom i d ∙ bottoms-new seeds from n i (omega arith) l (omega (arith, below d))
+]
+  where
+    below : (i ≡ from + n → ⊥) → i < from + n
+    below d = elim (decLt i (from + n)) [ yes k ↦ k | no k ↦ absurd (d (omega arith)) ]
+
+module _ (seeds : List ℕ) (positions arity : ℕ) (size : row * (positions + arity) ≤ length seeds) where
+  pub seeded-bottoms : (width k : ℕ) (constants : List ℕ) → Seeded width k positions constants seeds → Seeded width k (positions + arity) constants (bottoms seeds positions arity)
+  seeded-bottoms width k constants h = record {
+    at = λ i l. elim (decLt i positions) [
+      | yes m ↦ rw (bottoms-old seeds positions arity i m) (h .at i m)
+      | no m ↦ rw (bottoms-new seeds positions arity i size (omega arith) l) (regular-bottom width k constants)
+    ];
+  }
+
+  none-beyond : (f : Value → ℕ) → f bottom ≡ 0 → total (λ i. f (valueAt (bottoms seeds positions arity) i)) (positions + arity) ≡ total (λ i. f (valueAt seeds i)) positions
+  none-beyond f e =
+      total-beyond (λ i. f (valueAt seeds i)) (λ i. f (valueAt (bottoms seeds positions arity) i)) positions arity (λ i l. ap f (bottoms-old seeds positions arity i l))
+      (λ i l m. ap f (bottoms-new seeds positions arity i size l m) ∙ e)
+
+  pub live-bottoms : (e : ℕ) → Live e positions seeds → Live e (positions + arity) (bottoms seeds positions arity)
+  live-bottoms e h = h ∙ sym (none-beyond entriesOf refl)
+
+  pub lost-bottoms : (n : ℕ) → Lost n positions seeds → Lost n (positions + arity) (bottoms seeds positions arity)
+  lost-bottoms n h = omega (arith, none-beyond (λ v. lost (v .values)) refl)
