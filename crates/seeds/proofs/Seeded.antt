@@ -6,7 +6,7 @@ use native.Mathlib.Nat.{min-le-left, min-le-right}
 use native.Mathlib.Decide.{decLt, ℕ-discrete}
 use mathlib.Core.Path.{_≡_, refl, sym, ap, _∙_}
 use mathlib.Core.Logic.{_↔_, _⊎_, inl, inr}
-use mathlib.Core.Bool.{Bool, true, false, cond}
+use mathlib.Core.Bool.{true, false, cond}
 use mathlib.Core.List.{List, [], _∷_}
 use mathlib.Core.Option.{Option, some, none}
 use borrow.Author.Tests.{leb-true, eq-eqb, ne-eqb}
@@ -14,7 +14,7 @@ use lib.Dec.{leb, ltb, eqb}
 use lib.IntN.{ℤ}
 use lib.ListN.{length, getD}
 use Rattle.integers.specs.Order.{Le, Number}
-use Rattle.integers.specs.Lists.{All, Increasing}
+use Rattle.integers.specs.Lists.{All}
 use Rattle.integers.proofs.Tests.{by-cond}
 use Rattle.integers.proofs.OrderLaws.{min-left, max-left, min-either, max-either}
 use Rattle.limits.specs.Meter.{retain}
@@ -26,10 +26,14 @@ use Rattle.interval.specs.declared.Constant.{Constant}
 use Rattle.interval.specs.declared.Constant.the-variants.{Number as number, Name, Large}
 use Rattle.interval.specs.Interval.{hullOf}
 use Rattle.interval.specs.Bound as bounds
+use Rattle.cells.specs.Cells.{ofCell}
+use Rattle.cells.proofs.CellLaws.{of-number}
 use Rattle.lists.specs.Lists.{mix, union}
 use Rattle.lists.proofs.ListLaws.{Sorted, room}
 use Rattle.lists.proofs.Unions.{union-increasing}
+use Rattle.lattice.specs.declared.Widening.the-variants.{SymbolSize, ValueWidth}
 use Rattle.lattice.specs.declared.Reason.{Reason}
+use Rattle.lattice.specs.declared.Reason.the-variants.{None, Some}
 use Rattle.lattice.specs.Value.{Value, value}
 use Rattle.lattice.specs.Constants.{constantOf, constantAt}
 use Rattle.lattice.specs.Lattice.{bottom, numeric, retained, constant}
@@ -177,6 +181,21 @@ kind-from kind cell h = elim (ℕ-discrete kind 1) [
 pub retained-is : (constants : List ℕ) (id : ℕ) → Retained constants id ↔ (constantAt constants id ≡ Large → ⊥)
 retained-is constants id = (kind-to (getD constants (2 * id) 0) (getD constants (2 * id + 1) 0), kind-from (getD constants (2 * id) 0) (getD constants (2 * id + 1) 0))
 
+-- a constant's number has 32 bits, as its cell has
+pub number-fits : (constants : List ℕ) (id : ℕ) → getD constants (2 * id + 1) 0 < 2 ^ 32 → (n : ℤ) → constantAt constants id ≡ number n → Number n
+number-fits constants id h n e = go (getD constants (2 * id) 0) (getD constants (2 * id + 1) 0) h e
+  where
+    go : (kind cell : ℕ) → cell < 2 ^ 32 → constantOf kind cell ≡ number n → Number n
+    go kind cell l e = elim (ℕ-discrete kind 1) [
+      | yes d ↦
+          let f : ofCell cell ≡ n = cc (rw (eq-eqb kind 1 d) at e) in
+          rw (← f) (of-number cell l)
+      | no d ↦ elim (ℕ-discrete kind 2) [
+        | yes f ↦ let z : _≡_ {A = ℕ} 0 1 = cc (rw (ne-eqb kind 1 d, eq-eqb kind 2 f) at e) in absurd (omega arith)
+        | no f ↦ let z : _≡_ {A = ℕ} 0 1 = cc (rw (ne-eqb kind 1 d, ne-eqb kind 2 f) at e) in absurd (omega arith)
+      ]
+    ]
+
 -- ---- more constants, and other cells of which the kinds below k are the same
 
 module _ (k k′ : ℕ) (constants constants′ : List ℕ) (more : k ≤ k′) (same : (id : ℕ) → id < k → getD constants′ (2 * id) 0 ≡ getD constants (2 * id) 0) where
@@ -225,6 +244,23 @@ module _ (width k : ℕ) (constants : List ℕ) where
             one-regular _ (numbers n e, (numbers n e, omega arith)) (retained-is constants id .1 (λ l. let z : _≡_ {A = ℕ} 0 1 = cc in omega arith))
         go Name e = one-regular _ tt (retained-is constants id .1 (λ l. let z : _≡_ {A = ℕ} 0 1 = cc in omega arith))
         go Large e = by-pure _ record { formed = record { interval = tt; list = tt }; sorted = tt; known = tt; fits = tt }
+
+-- the value of a constant: a retained one has its id for a list, where the width admits one
+abbrev pub listed : ℕ → Bound → ℕ → Value
+listed id b width = cond (leb 1 width) (value b (some (id ∷ [])) None) (value b none (Some ValueWidth))
+
+abbrev pub constantSeed : ℕ → Constant → ℕ → Value
+constantSeed id (number n) width = listed id (bounds.constantOf (number n)) width
+constantSeed id Name width = listed id (bounds.constantOf Name) width
+constantSeed id Large width = value (bounds.constantOf Large) none (Some SymbolSize)
+
+listed-is : (id : ℕ) (b : Bound) (width : ℕ) → Ensures (λ v. v ≡ listed id b width) (retained id b width)
+listed-is id b width = by-test (leb 1 width) (λ e. then (retain 1) (by-pure _ (rw e))) (λ e. by-pure _ (rw e))
+
+pub constant-is : (id : ℕ) (c : Constant) (width : ℕ) → Ensures (λ v. v ≡ constantSeed id c width) (constant id c width)
+constant-is id (number n) width = listed-is id (bounds.constantOf (number n)) width
+constant-is id Name width = listed-is id (bounds.constantOf Name) width
+constant-is id Large width = by-pure _ refl
 
 -- ---- a join of two
 
