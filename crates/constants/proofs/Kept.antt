@@ -19,7 +19,7 @@ use Rattle.limits.specs.Metered.{stopped, _>>_}
 use Rattle.limits.specs.Meter.{metered}
 use Rattle.limits.specs.Budget.{work, bytes}
 use Rattle.limits.proofs.Monad.{Ensures, by-through}
-use Rattle.limits.proofs.Ends.{Ends, completes, stops, ends-test, ends-as, ends-both, ends-through}
+use Rattle.limits.proofs.Ends.{Ends, completes, stops, ends-test, ends-as, ends-both, ends-through, on-bind, on-then, in-some-way, with-value}
 use Rattle.search.specs.Seek.{Place, found, absent}
 use Rattle.search.proofs.Complete as search
 use Rattle.thresholds.specs.Thresholds.{Entry, entry, around}
@@ -33,11 +33,11 @@ use Rattle.keys.proofs.KeyOrder as keys
 use Rattle.store.specs.declared.Store.{Store}
 use Rattle.store.specs.Store.{withConstants, withKeys}
 use Rattle.store.specs.Calls.{open?, charged, Marks, marks, entering}
-use Rattle.store.proofs.Frame.{spent-none, Spends, spends-work, spends-links, spends-bytes, spends-then, spends-metered, Charging, charging-more, Marking, ending-ends, entering-left}
+use Rattle.store.proofs.Frame.{spent-none, Spends, spends-work, spends-links, spends-bytes, spends-then, spends-metered, Charging, charging-more, Marking, ending-ends, entering-left, Limited, limited, pays}
 use Rattle.constants.specs.Constant.{bytesOf, retains, classify, KeyTables, keyTables, kindOf, payloadOf, addKey, addLarge, cost, settle, keep, abandon, retain, Tables, tables, inMarks, inKeys, inHeader, sizes, spacious, constantCall}
 use Rattle.constants.proofs.CodeLaws.{sizes-yes, room-yes}
 use Rattle.constants.proofs.Keyed.{Proper, Retained, Keyed, keyed-large, keyed-key, key-back, old-kind, old-payload, old-key, proper-bytes, retained-new, one-id}
-use Rattle.constants.proofs.Steps.{Besides, besides-of, besides-none, besides-more, besides-charge, charge-counts, besides-marks, marks-constants, marks-keys, on-bind, on-then, in-some-way, with-value, Limited, limited, pays}
+use Rattle.constants.proofs.Steps.{Besides, besides-of, besides-none, besides-more, besides-charge, charge-counts, besides-marks, marks-constants, marks-keys}
 
 -- ---- the thresholds of a key
 

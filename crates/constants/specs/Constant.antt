@@ -1,6 +1,6 @@
 -- `Input::constant`, on the header and the lent tables as they stand, with the reader of 01.
 use Prim.Native.Nat.{ℕ, _+_, _-_}
-use mathlib.Core.Bool.{Bool, true, false, cond, _&&_}
+use mathlib.Core.Bool.{Bool, true, cond, _&&_}
 use mathlib.Core.List.{List, []}
 use lib.Dec.{leb, ltb, eqb}
 use lib.IntN.{ℤ}

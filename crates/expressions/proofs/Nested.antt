@@ -11,17 +11,16 @@ use lib.ListN.{length}
 use lib.Seq.{length-sets}
 use Rattle.integers.proofs.Tests.{and-left, and-right}
 use Rattle.integers.proofs.ListLaws.{Compared, less, more, same, compared}
-use Rattle.limits.specs.declared.Resource.{Resource}
-use Rattle.limits.specs.declared.Resource.the-variants.{Work, Predicates, Positions, Links, ValueEntries, Rounds, InspectedBytes}
 use Rattle.limits.specs.declared.Stop.{Stop}
 use Rattle.limits.specs.declared.Budget.{Budget}
 use Rattle.limits.specs.declared.Refusal.{Refusal}
 use Rattle.limits.specs.declared.Refusal.the-variants.{Closed, Shape, Full, Limit, Missing}
-use Rattle.limits.specs.Refusal.{Told, told, resourceNumber}
+use Rattle.limits.specs.Refusal.{Told, told}
 use Rattle.limits.specs.Metered.{Run, going, stopped, Metered, _>>=_, mapped, through}
 use Rattle.limits.specs.Meter.{meterOf, withMeter, metered}
 use Rattle.limits.specs.Meter as inner
 use Rattle.limits.specs.Budget.{work, links}
+use Rattle.limits.proofs.ChargeLaws.{limit-late}
 use Rattle.limits.proofs.Ends.{Ends, completes, stops, ends-pure, ends-test, ends-bind, ends-then}
 use Rattle.limits.proofs.Monad.{Ensures, Holds, by-pure, by-test, then, any-value, by-through}
 use Rattle.limits.proofs.Live.{Lives, live-pure, live-test, live-then, live-work}
@@ -232,15 +231,6 @@ pub record Refused (t : Tables) (r : Told) (u : Tables) : Type 0 where
   pub early : r .number ≤ 2 → u ≡ t
 
 -- ---- a charge, with whatever holds of its value
-
-limit-late : (r : Resource) → resourceNumber r ≤ 2 → ⊥
-limit-late Work h = absurd (omega arith)
-limit-late Predicates h = absurd (omega arith)
-limit-late Positions h = absurd (omega arith)
-limit-late Links h = absurd (omega arith)
-limit-late ValueEntries h = absurd (omega arith)
-limit-late Rounds h = absurd (omega arith)
-limit-late InspectedBytes h = absurd (omega arith)
 
 -- stopped by a charge: no refusal 1 or 2
 record Halted (t : Tables) (r : Told) (u : Tables) : Type 0 where

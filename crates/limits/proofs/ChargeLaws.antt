@@ -182,3 +182,17 @@ ten (Limit s) = by-resource (s .resource)
 ten Missing = (omega arith, omega arith)
 ten Descending = (omega arith, omega arith)
 ten MissingSlot = (omega arith, omega arith)
+
+-- ---- a charge is refused with a resource's number, which is neither 1 nor 2
+
+pub late : (r : Resource) → 3 ≤ resourceNumber r
+late Work = omega arith
+late Predicates = omega arith
+late Positions = omega arith
+late Links = omega arith
+late ValueEntries = omega arith
+late Rounds = omega arith
+late InspectedBytes = omega arith
+
+pub limit-late : (r : Resource) → resourceNumber r ≤ 2 → ⊥
+limit-late r h = absurd (omega (arith, late r))

@@ -2,6 +2,7 @@
 -- a call leaves, whichever way it ends, is said with it.
 use mathlib.Core.Path.{_≡_, refl}
 use mathlib.Core.Bool.{Bool, true, false, cond}
+use Rattle.limits.proofs.Monad.{Holds}
 use Rattle.limits.specs.Metered.{Run, going, stopped, Metered, pure, halt, after, _>>=_, _>>_, mapped, through}
 
 pub data Ends {E S A : Type 0} (P : A → S → Type 0) (Q : E → S → Type 0) : Run E S A → Type 0 where
@@ -65,3 +66,30 @@ module _ {E F S T A : Type 0} (get : S → T) (kept left : S → T → S) (tell 
       go : {x : Run E T A} → Ends P Q x → Ends R U (mapped (kept s) (left s) tell x)
       go (completes k) = completes (f _ _ k)
       go (stops k) = stops (g _ _ k)
+
+-- and then the rest of a computation
+module _ {E F S T A B : Type 0} (get : S → T) (kept left : S → T → S) (tell : E → F) {P : A → T → Type 0} {Q : E → T → Type 0} {R : B → S → Type 0} {U : F → S → Type 0} where
+  pub on-bind : (m : Metered E T A) (f : A → Metered F S B) (s : S) → Ends P Q (m (get s)) → ((a : A) (t : T) → P a t → Ends R U (f a (kept s t))) → ((e : E) (t : T) → Q e t → U (tell e) (left s t)) →
+      Ends R U ((through get kept left tell m >>= f) s)
+  unfolding _>>=_ after through mapped
+  on-bind m f s h k l = go h
+    where
+      go : {x : Run E T A} → Ends P Q x → Ends R U (after (mapped (kept s) (left s) tell x) f)
+      go (completes p) = k _ _ p
+      go (stops q) = stops (l _ _ q)
+
+  pub on-then : (m : Metered E T A) (n : Metered F S B) (s : S) → Ends P Q (m (get s)) → ((a : A) (t : T) → P a t → Ends R U (n (kept s t))) → ((e : E) (t : T) → Q e t → U (tell e) (left s t)) →
+      Ends R U ((through get kept left tell m >> n) s)
+  unfolding _>>_
+  on-then m n s h k l = on-bind m (λ _. n) s h k l
+
+-- ---- of any computation
+
+module _ {E S A : Type 0} where
+  pub in-some-way : (x : Run E S A) → Ends (λ _ _. Unit {0}) (λ _ _. Unit {0}) x
+  in-some-way (going a s) = completes tt
+  in-some-way (stopped e s) = stops tt
+
+  pub with-value : {P : A → Type 0} (x : Run E S A) → Holds P x → Ends (λ a _. P a) (λ _ _. Unit {0}) x
+  with-value (going a s) h = completes h
+  with-value (stopped e s) h = stops tt

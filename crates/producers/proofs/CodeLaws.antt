@@ -33,7 +33,7 @@ use Rattle.rules.specs.declared.Binding.{Binding}
 use Rattle.rules.specs.declared.Guard.{Guard}
 use Rattle.limits.specs.declared.Budget.{Budget}
 use Rattle.limits.specs.Records.{withCount, withStatistics}
-use Rattle.limits.proofs.Ends.{Ends, completes, stops, ends-pure, where-going, ends-as, ends-then, ends-through}
+use Rattle.limits.proofs.Ends.{Ends, ends-pure, where-going, ends-as, ends-then, ends-through, in-some-way}
 use Rattle.rules.specs.declared.Head.{Head}
 use Rattle.rules.specs.declared.Rule.{Rule}
 use Rattle.rules.specs.Rule.{bindingsOf, guardsOf, headsOf, putRule}
@@ -322,10 +322,6 @@ record Counted (n : ℕ) (r r′ : Records) : Type 0 where
   context : r′ .header .context ≡ r .header .context
   few : r′ .header .counts .provenance ≤ r .header .counts .provenance + n
 
-ends-any : {E S A : Type 0} (x : Run E S A) → Ends (λ _ _. Unit {0}) (λ _ _. Unit {0}) x
-ends-any (going a s) = completes tt
-ends-any (stopped e s) = stops tt
-
 -- where a head passes, there is one record more at most
 head-left : (sc : Scope) (h : Head) (r : Records) → Ends (λ _ r′. Counted 1 r r′) (λ _ _. Unit {0}) (checkHead sc h r)
 unfolding checkHead
@@ -339,7 +335,7 @@ head-left sc h r =
     checked : Ends (λ _ s. (s .counts ≡ r .header .counts) × (s .context ≡ r .header .context)) (λ _ _. Unit {0}) (checking (checkValue sc (h .value)) (r .header))
     checked =
         ends-through (λ s. meterOf (s .budget)) (λ s m. withBudget (withMeter m (s .budget)) s) (λ s m. withBudget (withMeter m (s .budget)) s) (λ e. e) {P = λ _ _. Unit {0}} {Q = λ _ _. Unit {0}}
-        (checkValue sc (h .value)) (r .header) (ends-any _) (λ _ _ _. (refl, refl)) (λ _ _ _. tt)
+        (checkValue sc (h .value)) (r .header) (in-some-way _) (λ _ _ _. (refl, refl)) (λ _ _ _. tt)
 
 -- heads one after another, from the i-th on: what is left to check, and what the next one may record
 pub record Heading (sc : Scope) (whole : Metered Told Records (Unit {0})) (s₀ : Store) (t₀ : List ℕ) (items : List Head) (i : ℕ) (s : Store) (t : List ℕ) : Type 0 where
@@ -586,7 +582,7 @@ rule-left nodes r t =
     (ends-through (λ u. u .header) (λ u s. records s (u .table)) (λ u s. records s (u .table)) (λ e. e) {P = λ _ s. (s .counts .rules ≡ t .header .counts .rules) × (s .context ≡ t .header .context)} {Q = λ _ _. Unit {0}}
     (checking body) t
     (ends-through (λ s. meterOf (s .budget)) (λ s m. withBudget (withMeter m (s .budget)) s) (λ s m. withBudget (withMeter m (s .budget)) s) (λ e. e) {P = λ _ _. Unit {0}} {Q = λ _ _. Unit {0}}
-    body (t .header) (ends-any _) (λ _ _ _. (refl, refl)) (λ _ _ _. tt))
+    body (t .header) (in-some-way _) (λ _ _ _. (refl, refl)) (λ _ _ _. tt))
     (λ _ s p. p) (λ _ _ _. tt))
     (λ _ u p. ends-as (heads-kept (scopeOf nodes (t .header) r) (headsOf r) u) (λ _ v q. (q .0 ∙ p .0, q .1 ∙ p .1)) (λ _ _ _. tt))
     (λ _ _ _. tt)

@@ -20,6 +20,7 @@ use Rattle.limits.specs.Refusal.{Told, told}
 use Rattle.limits.specs.Metered.{Metered, _>>_}
 use Rattle.limits.specs.Meter.{Meter, meterOf, withMeter}
 use Rattle.limits.specs.Budget.{links}
+use Rattle.limits.proofs.ChargeLaws.{limit-late}
 use Rattle.limits.proofs.Ends.{Ends, completes, stops, ends-pure, ends-as, ends-both, ends-test, ends-then, ends-through}
 use Rattle.nodes.specs.Node as expressions
 use Rattle.rules.specs.declared.Head.{Head}
@@ -35,7 +36,7 @@ use Rattle.store.proofs.Frame.{Spent, spent-none, spent-more, Spends, spends-th
 use Rattle.provenance.specs.Provenance.{Records, records, paying, addRecord, recordIn, provenance, recordable}
 use Rattle.provenance.proofs.Frame.{Recording, recording-none, recording-more, recording-fewer, Unrecorded, provenance-left}
 use Rattle.producers.specs.Producer.{Scope, checking, inStore, checkValue, checkHead, checkHeads, Tables, tables, inHeader, inRecords, shapely, sizes, spacious, cost, scopeOf, checkBody, addRule, checkRule, ruleCall}
-use Rattle.producers.proofs.Scoped.{Late, limit-late, Finds, BindingIn, GuardIn, HeadIn, RuleIn, rule-small, finds-value, finds-body}
+use Rattle.producers.proofs.Scoped.{Late, Finds, BindingIn, GuardIn, HeadIn, RuleIn, rule-small, finds-value, finds-body}
 
 -- ---- charges, with what they refuse
 

@@ -8,17 +8,17 @@ use mathlib.Core.List.{List, [], _∷_}
 use borrow.Author.Tests.{ltb-true}
 use lib.Dec.{ltb}
 use Rattle.integers.specs.Lists.{All}
-use Rattle.limits.specs.declared.Resource.{Resource}
-use Rattle.limits.specs.declared.Resource.the-variants.{Work, Predicates, Positions, Links, ValueEntries, Rounds, InspectedBytes}
+use Rattle.limits.specs.declared.Resource.the-variants.{Work}
 use Rattle.limits.specs.declared.Charged.{Charged}
 use Rattle.limits.specs.declared.Charged.the-variants.{Paid, Stopped}
 use Rattle.limits.specs.declared.Refusal.{Refusal}
 use Rattle.limits.specs.declared.Refusal.the-variants.{Limit, Missing, MissingSlot}
-use Rattle.limits.specs.Refusal.{Told, told, resourceNumber}
+use Rattle.limits.specs.Refusal.{Told, told}
 use Rattle.limits.specs.Charge.{chargeOf}
 use Rattle.limits.specs.Metered.{Metered, pure, _>>_}
 use Rattle.limits.specs.Meter.{Meter, work, withWork}
 use Rattle.limits.specs.Meter as inner
+use Rattle.limits.proofs.ChargeLaws.{limit-late}
 use Rattle.limits.proofs.Ends.{Ends, completes, stops, ends-as, ends-pure, ends-test, ends-then, ends-through}
 use Rattle.nodes.specs.declared.UnaryOp.{UnaryOp}
 use Rattle.nodes.specs.declared.BinaryOp.{BinaryOp}
@@ -75,15 +75,6 @@ module _ {nodes nodes′ : List ℕ} {n n′ : ℕ} (slots : ℕ) (grows : n ≤
 -- refusals 1 and 2 come before anything is charged: what stops a check is none of them
 abbrev pub Late : Told → Type 0
 Late r = r .number ≤ 2 → ⊥
-
-pub limit-late : (r : Resource) → resourceNumber r ≤ 2 → ⊥
-limit-late Work h = absurd (omega arith)
-limit-late Predicates h = absurd (omega arith)
-limit-late Positions h = absurd (omega arith)
-limit-late Links h = absurd (omega arith)
-limit-late ValueEntries h = absurd (omega arith)
-limit-late Rounds h = absurd (omega arith)
-limit-late InspectedBytes h = absurd (omega arith)
 
 -- c passes only where P holds, and leaves the live entries, whichever way it ends
 pub record Finds (P : Type 0) (c : Metered Told Meter (Unit {0})) : Type 0 where

@@ -7,18 +7,18 @@ use mathlib.Core.List.{List}
 use lib.Dec.{leb}
 use lib.ListN.{getD}
 use Rattle.limits.specs.declared.Resource.{Resource}
-use Rattle.limits.specs.declared.Resource.the-variants.{Work, Predicates, Positions, Links, ValueEntries, Rounds, InspectedBytes}
 use Rattle.limits.specs.declared.Limits.{Limits}
 use Rattle.limits.specs.declared.Stop.{Stop}
 use Rattle.limits.specs.declared.Budget.{Budget}
 use Rattle.limits.specs.declared.Refusal.the-variants.{Limit}
-use Rattle.limits.specs.Refusal.{told, resourceNumber}
+use Rattle.limits.specs.Refusal.{told}
 use Rattle.limits.specs.Metered.{Metered}
 use Rattle.limits.specs.declared.Charged.the-variants.{Paid, Stopped}
 use Rattle.limits.specs.Charge.{chargeOf}
 use Rattle.limits.specs.Records.{limitOf, countOf, withCount, withStatistics}
 use Rattle.limits.specs.Budget.{charge}
 use Rattle.limits.specs.Budget as budgets
+use Rattle.limits.proofs.ChargeLaws.{late}
 use Rattle.limits.proofs.Ends.{Ends, completes, stops, ends-through}
 use Rattle.store.specs.declared.Phase.{Phase}
 use Rattle.store.specs.declared.Store.{Store}
@@ -196,15 +196,6 @@ spent-bill h = record {
 }
 
 -- ---- a charge in a call
-
-pub late : (r : Resource) → 3 ≤ resourceNumber r
-late Work = omega arith
-late Predicates = omega arith
-late Positions = omega arith
-late Links = omega arith
-late ValueEntries = omega arith
-late Rounds = omega arith
-late InspectedBytes = omega arith
 
 -- a charge is refused with a number of its own, never with 1 or 2
 pub charged-ends : {A : Type 0} {P : A → Budget → Type 0} {Q : Stop → Budget → Type 0} (m : Metered Stop Budget A) (s : Store) → Ends P Q (m (s .budget)) →

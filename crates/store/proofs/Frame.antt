@@ -1,5 +1,5 @@
 -- What a call leaves of the header beside what it is for. Charges change work, links and inspected bytes, and nothing else.
-use Prim.Native.Nat.{ℕ}
+use Prim.Native.Nat.{ℕ, _≤_}
 use native.Mathlib.Omega.{arith}
 use mathlib.Core.Path.{_≡_, refl, _∙_}
 use Rattle.limits.specs.declared.Resource.the-variants.{Work, Links, InspectedBytes}
@@ -15,7 +15,8 @@ use Rattle.limits.specs.Metered.{Run, going, stopped, Metered, _>>_, through, m
 use Rattle.limits.specs.Budget.{charge, work, links, bytes}
 use Rattle.limits.specs.Budget as budgets
 use Rattle.limits.specs.Meter.{Meter, meterOf, withMeter, metered}
-use Rattle.limits.proofs.Ends.{Ends, completes, stops, ends-as, ends-then, ends-through}
+use Rattle.limits.proofs.Ends.{Ends, completes, stops, ends-as, ends-then, ends-through, ends-both, in-some-way}
+use Rattle.limits.proofs.ChargeLaws.{late}
 use Rattle.limits.proofs.Live.{LiveIn, Lives}
 use Rattle.thresholds.specs.Thresholds.{Entry, entry}
 use Rattle.thresholds.proofs.Outcomes as outcomes
@@ -116,6 +117,19 @@ charged-left {m} h s =
     (ends-through (λ t. t .budget) (λ t b. withBudget b t) (λ t b. withBudget b t) (λ e. e) m s (h .at (s .budget)) (λ _ b p. record { budget = b; spent = p; is = refl }) (λ _ b p. record { budget = b; spent = p; is = refl }))
     (λ _ t p. p)
     (λ _ t p. p)
+
+-- a charge is refused with a resource's number, which is neither 1 nor 2
+abbrev pub Limited : Told → Type 0
+Limited e = 3 ≤ e .number
+
+pub limited : (s : Stop) → Limited (told (Limit s))
+limited s = late (s .resource)
+
+pub pays : {A : Type 0} {m : Metered Stop Budget A} → Spends m → (s : Store) → Ends (λ _ s′. Charging s s′) (λ e s′. Limited e × Charging s s′) (charged m s)
+pays {A} {m} h s = ends-as (ends-both (charged-left h s) refusal) (λ _ s′ p. p .0) (λ e s′ p. (p .1, p .0))
+  where
+    refusal : Ends (λ _ _. Unit {0}) (λ e _. Limited e) (charged m s)
+    refusal = ends-through (λ t. t) (λ _ t. t) (λ _ t. t) (λ e. told (Limit e)) _ s (in-some-way _) (λ _ _ _. tt) (λ e _ _. limited e)
 
 -- ---- thresholds
 
