@@ -461,9 +461,10 @@ room-enough (Some c) n e = omega (arith, leb-true n 1008 e)
 pub roomy : (s : Store) → spacious s ≡ true → (s .counts .rules < 256) × ((s .counts .positions ≤ 256) × Room 16 (s .context) (s .counts .provenance))
 roomy s e =
     let f = and-right (ltb (s .counts .rules) 256) _ e in
-    let g = and-right (leb (s .counts .expressions) 1024) _ f in
-    (ltb-true _ _ (and-left (ltb (s .counts .rules) 256) _ e),
-    (leb-true _ _ (and-left (leb (s .counts .positions) 256) _ g), room-enough (s .context) (s .counts .provenance) (and-right (leb (s .counts .positions) 256) _ g)))
+    let g = and-right (leb (s .counts .expressions) 1024) _ f in (
+      ltb-true _ _ (and-left (ltb (s .counts .rules) 256) _ e),
+      (leb-true _ _ (and-left (leb (s .counts .positions) 256) _ g), room-enough (s .context) (s .counts .provenance) (and-right (leb (s .counts .positions) 256) _ g)),
+    )
 
 -- fewer records need less room
 pub room-fewer : (c : Context) (n k : ℕ) → n ≤ 16 → Room 16 c k → Room n c k

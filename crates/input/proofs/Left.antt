@@ -1,0 +1,271 @@
+-- What calls leave of a store: laws by which one store is reached from another, over the parts that a call changes.
+use Prim.Native.Nat.{ℕ, _+_, _*_, _≤_, _<_}
+use native.Mathlib.Omega.{arith}
+use native.Mathlib.Decide.{decLt}
+use mathlib.Core.Path.{_≡_, refl, sym, ap, subst, _∙_}
+use mathlib.Core.Logic.{_⊎_, inl, inr}
+use mathlib.Core.Bool.{Bool, true, false, cond}
+use mathlib.Core.List.{List}
+use borrow.Author.Tests.{eqb-true, eq-eqb}
+use lib.Dec.{eqb}
+use lib.IntN.{ℤ}
+use lib.ListN.{length}
+use Rattle.integers.specs.Order.{Number}
+use Rattle.limits.specs.Refusal.{Told}
+use Rattle.limits.specs.Metered.{Metered, pure}
+use Rattle.limits.proofs.Ends.{Ends, completes}
+use Rattle.interval.specs.declared.Constant.{Constant}
+use Rattle.interval.specs.declared.Constant.the-variants.{Name, Large}
+use Rattle.interval.specs.declared.Constant.the-variants as constant
+use Rattle.lattice.specs.Constants.{constantOf, constantAt}
+use Rattle.cells.specs.Cells.{ofCell}
+use Rattle.thresholds.proofs.Sorted.{Rises}
+use Rattle.keys.specs.Key.{Key, number, kindAt, payloadAt, keyAt}
+use Rattle.rows.specs.Row.{row}
+use Rattle.store.specs.declared.Store.{Store}
+use Rattle.store.proofs.Frame.{Spent, spent-none, Charging}
+use Rattle.constants.proofs.Kept.{Stands, Surrounds, Marked, Numbered, again, newly, Given}
+use Rattle.constants.proofs.Steps.{on-bind}
+use Rattle.seeds.proofs.Seeded.{Seeded, seeded-constants}
+use Rattle.seeds.proofs.Beside.{Standing}
+use Rattle.input.specs.Input.{Tables, Reply, TypedKey, on}
+use Rattle.input.proofs.Reached.{Sized, Counted, Numbers, Reached}
+
+-- ---- a call on a part of the store
+
+pub on-ends : {T A : Type 0} (get : Tables → T) (put : T → Tables → Tables) (reply : A → Reply) {P : A → T → Type 0} {Q : Told → T → Type 0} {R : Reply → Tables → Type 0} {U : Told → Tables → Type 0}
+    (m : Metered Told T A) (t : Tables) → Ends P Q (m (get t)) → ((a : A) (u : T) → P a u → R (reply a) (put u t)) → ((e : Told) (u : T) → Q e u → U e (put u t)) → Ends R U (on get put reply m t)
+unfolding pure
+on-ends get put reply m t h f g = on-bind get (λ s u. put u s) (λ s u. put u s) (λ e. e) m (λ a. pure (reply a)) t h (λ a u p. completes (f a u p)) g
+
+-- ---- what a refusal leaves
+
+-- of the header: all but the counts of thresholds and of provenance records, and what work, links and bytes were charged
+pub record Steady (s s′ : Store) : Type 0 where
+  pub predicates : s′ .counts .predicates ≡ s .counts .predicates
+  pub positions : s′ .counts .positions ≡ s .counts .positions
+  pub constants : s′ .counts .constants ≡ s .counts .constants
+  pub keys : s′ .counts .keys ≡ s .counts .keys
+  pub expressions : s′ .counts .expressions ≡ s .counts .expressions
+  pub rules : s′ .counts .rules ≡ s .counts .rules
+  pub context : s′ .context ≡ s .context
+  pub phase : s′ .phase ≡ s .phase
+  -- the limits, and what predicates, positions, live entries, rounds and widened arguments were counted
+  pub spent : Spent (s .budget) (s′ .budget)
+
+pub steady-none : (s : Store) → Steady s s
+steady-none s = record {
+  predicates = refl;
+  positions = refl;
+  constants = refl;
+  keys = refl;
+  expressions = refl;
+  rules = refl;
+  context = refl;
+  phase = refl;
+  spent = spent-none (s .budget);
+}
+
+pub steady-charge : {s s′ : Store} → Charging s s′ → Steady s s′
+steady-charge c = rw (c .is) record {
+  predicates = refl;
+  positions = refl;
+  constants = refl;
+  keys = refl;
+  expressions = refl;
+  rules = refl;
+  context = refl;
+  phase = refl;
+  spent = c .spent;
+}
+
+-- of the tables: all but thresholds and provenance records
+pub record Leaves (t u : Tables) : Type 0 where
+  pub predicates : u .predicates ≡ t .predicates
+  pub names : u .names ≡ t .names
+  pub constants : u .constants ≡ t .constants
+  pub order : u .order ≡ t .order
+  pub nodes : u .nodes ≡ t .nodes
+  pub seeds : u .seeds ≡ t .seeds
+  pub rules : u .rules ≡ t .rules
+  pub header : Steady (t .header) (u .header)
+
+-- a call that is turned down, with e
+pub record Refused (t : Tables) (e : Told) (u : Tables) : Type 0 where
+  pub reached : Reached u
+  pub leaves : Leaves t u
+  -- refusals 1 and 2 change nothing
+  pub untouched : (e .number ≡ 1) ⊎ (e .number ≡ 2) → u ≡ t
+
+pub early : {n : ℕ} → (n ≡ 1) ⊎ (n ≡ 2) → n ≤ 2
+early (inl h) = omega arith
+early (inr h) = omega arith
+
+-- ---- thresholds and provenance records, which stay where a call is refused later on
+
+pub record Beyond (t u : Tables) : Type 0 where
+  pub rises : Rises (u .header .counts .thresholds) (u .thresholds)
+  pub old : (z : ℤ) → Stands (t .header .counts .thresholds) (t .thresholds) z → Stands (u .header .counts .thresholds) (u .thresholds) z
+  pub marks : length (u .thresholds) ≡ length (t .thresholds)
+  pub few-marks : u .header .counts .thresholds ≤ 4096
+  pub records : length (u .records) ≡ length (t .records)
+  pub few-records : u .header .counts .provenance ≤ 1024
+
+pub beyond-none : {t u : Tables} → Reached t → u .thresholds ≡ t .thresholds → u .records ≡ t .records → u .header .counts .thresholds ≡ t .header .counts .thresholds →
+    u .header .counts .provenance ≡ t .header .counts .provenance → Beyond t u
+beyond-none r a b c d = record {
+  rises = rw (a, c) (r .rises);
+  old = λ z h. rw (a, c) h;
+  marks = rw a;
+  few-marks = rw c (r .counted .thresholds);
+  records = rw b;
+  few-records = rw d (r .counted .provenance);
+}
+
+-- ---- constants and expressions are as they were
+
+pub record Held (t u : Tables) : Type 0 where
+  pub names : u .names ≡ t .names
+  pub constants : u .constants ≡ t .constants
+  pub order : u .order ≡ t .order
+  pub nodes : u .nodes ≡ t .nodes
+  pub count : u .header .counts .constants ≡ t .header .counts .constants
+  pub keys : u .header .counts .keys ≡ t .header .counts .keys
+  pub expressions : u .header .counts .expressions ≡ t .header .counts .expressions
+  pub limits : u .header .budget .limits ≡ t .header .budget .limits
+
+pub surrounds-more : (n n′ : ℕ) (a b : List ℤ) → ((z : ℤ) → Stands n a z → Stands n′ b z) → (v : ℤ) → Surrounds (number v) n a → Surrounds (number v) n′ b
+surrounds-more n n′ a b f v h = (f _ (h .0), (λ k. f _ (h .1 k)), (λ k. f _ (h .2 k)))
+
+pub numbers-marks : {n c c′ : ℕ} {cells : List ℕ} {a b : List ℤ} → ((z : ℤ) → Stands c a z → Stands c′ b z) → Numbers n cells c a → Numbers n cells c′ b
+numbers-marks {c} {c′} {a} {b} f h = record { at = λ id l e. let p = h .at id l e in (p .0, surrounds-more c c′ a b f _ (p .1)) }
+
+-- a call that changes no constants and no expressions, with what holds of predicates and seeds
+pub held-reached : {t u : Tables} → Reached t → Held t u → Beyond t u → length (u .predicates) ≡ 128 → length (u .seeds) ≡ row * 256 → u .header .counts .predicates ≤ 64 →
+    u .header .counts .positions ≤ 256 → Standing (u .constants) (u .header) (u .seeds) → Reached u
+held-reached {t} {u} r h b p s few most st = record {
+  sized = record {
+    predicates = p;
+    names = rw (h .names) (r .sized .names);
+    constants = rw (h .constants) (r .sized .constants);
+    order = rw (h .order) (r .sized .order);
+    thresholds = b .marks ∙ r .sized .thresholds;
+    nodes = rw (h .nodes) (r .sized .nodes);
+    seeds = s;
+    records = b .records ∙ r .sized .records;
+  };
+  counted = record {
+    predicates = few;
+    positions = most;
+    constants = rw (h .count) (r .counted .constants);
+    keys = rw (h .keys) (r .counted .keys);
+    expressions = rw (h .expressions) (r .counted .expressions);
+    thresholds = b .few-marks;
+    provenance = b .few-records;
+  };
+  narrow = rw (h .limits) (r .narrow);
+  keyed = rw (h .count, h .keys, h .names, h .constants, h .order) (r .keyed);
+  rises = b .rises;
+  numbers = rw (h .count, h .constants) (numbers-marks (b .old) (r .numbers));
+  nested = rw (h .count, h .expressions, h .nodes) (r .nested);
+  standing = st;
+}
+
+held-left : {t u : Tables} → Leaves t u → Held t u
+held-left h = record {
+  names = h .names;
+  constants = h .constants;
+  order = h .order;
+  nodes = h .nodes;
+  count = h .header .constants;
+  keys = h .header .keys;
+  expressions = h .header .expressions;
+  limits = h .header .spent .limits;
+}
+
+standing-left : {t u : Tables} → Leaves t u → Standing (t .constants) (t .header) (t .seeds) → Standing (u .constants) (u .header) (u .seeds)
+standing-left {t} {u} l st =
+    let h = l .header in record {
+      seeded = rw (l .constants, l .seeds, h .spent .limits, h .constants, h .positions) (st .seeded);
+      live = rw (l .seeds, h .spent .entries, h .positions) (st .live);
+      lost = rw (l .seeds, h .spent .widened, h .positions) (st .lost);
+    }
+
+-- a refusal keeps what is reached
+pub left-reached : {t u : Tables} → Reached t → Leaves t u → Beyond t u → Reached u
+left-reached r l b =
+    held-reached r (held-left l) b (rw (l .predicates) (r .sized .predicates)) (rw (l .seeds) (r .sized .seeds)) (rw (l .header .predicates) (r .counted .predicates))
+    (rw (l .header .positions) (r .counted .positions)) (standing-left l (r .standing))
+
+-- ---- a new constant
+
+module _ {k : Key} {retained : Bool} {n id n′ m′ : ℕ} {names cells order names′ cells′ order′ : List ℕ} (g : Given k retained n names cells order id n′ m′ names′ cells′ order′) where
+  -- the id is new where it is not one of the old ones
+  pub given-new : (j : ℕ) → j < n′ → (j < n) ⊎ (j ≡ id)
+  given-new j l = go (g .numbered)
+    where
+      go : Numbered n id n′ → (j < n) ⊎ (j ≡ id)
+      go (again a e) = inl (omega arith)
+      go (newly a e) = elim (decLt j n) [
+        | yes b ↦ inl b
+        | no b ↦ inr (omega arith)
+      ]
+
+  pub given-more : n ≤ n′
+  given-more = go (g .numbered)
+    where
+      go : Numbered n id n′ → n ≤ n′
+      go (again a e) = omega arith
+      go (newly a e) = omega arith
+
+  pub given-few : n′ ≤ n + 1
+  given-few = go (g .numbered)
+    where
+      go : Numbered n id n′ → n′ ≤ n + 1
+      go (again a e) = omega arith
+      go (newly a e) = omega arith
+
+  -- a number that is read of its cells is the key's
+  key-number : kindAt cells′ id ≡ 1 → number (ofCell (payloadAt cells′ id)) ≡ k
+  unfolding keyAt
+  key-number e = go retained refl
+    where
+      reads : keyAt names′ cells′ id ≡ number (ofCell (payloadAt cells′ id))
+      reads = rw (eq-eqb (kindAt cells′ id) 1 e)
+
+      go : (b : Bool) → retained ≡ b → number (ofCell (payloadAt cells′ id)) ≡ k
+      go true h = sym reads ∙ g .kept h .1
+      go false h = absurd (omega (arith, g .large h .1))
+
+  pub numbers-given : {c c′ : ℕ} {a b : List ℤ} → TypedKey k → Marked k c a c′ b → Surrounds k c′ b → Numbers n cells c a → Numbers n′ cells′ c′ b
+  numbers-given {c} {c′} {a} {b} typed m s h = record { at = λ j l e. go j e (given-new j l) }
+    where
+      go : (j : ℕ) → kindAt cells′ j ≡ 1 → (j < n) ⊎ (j ≡ id) → Number (ofCell (payloadAt cells′ j)) × Surrounds (number (ofCell (payloadAt cells′ j))) c′ b
+      go j e (inl l) =
+          let p = h .at j l (sym (g .kinds j l) ∙ e) in
+          rw (g .payloads j l) (p .0, surrounds-more c c′ a b (m .old) _ (p .1))
+      go j e (inr q) =
+          let f = key-number (rw q at e) in
+          rw q (subst TypedKey (sym f) typed, subst (λ (x : Key). Surrounds x c′ b) (sym f) s)
+
+  pub seeded-given : (width positions : ℕ) (seeds : List ℕ) → Seeded width n positions cells seeds → Seeded width n′ positions cells′ seeds
+  seeded-given width positions seeds h = seeded-constants n n′ cells cells′ given-more (g .kinds) width positions seeds h
+
+-- ---- the number of a constant, as the lattice reads it
+
+module _ (kind cell : ℕ) (v : ℤ) where
+  other : (b : Bool) → cond b Name Large ≡ constant.Number v → ⊥
+  other true h = let z : _≡_ {A = ℕ} 0 1 = cc in absurd (omega arith)
+  other false h = let z : _≡_ {A = ℕ} 0 1 = cc in absurd (omega arith)
+
+  number-read : constantOf kind cell ≡ constant.Number v → (kind ≡ 1) × (ofCell cell ≡ v)
+  number-read = go (eqb kind 1) refl
+    where
+      go : (b : Bool) → eqb kind 1 ≡ b → cond b (constant.Number (ofCell cell)) (cond (eqb kind 2) Name Large) ≡ constant.Number v → (kind ≡ 1) × (ofCell cell ≡ v)
+      go true e h = (eqb-true kind 1 e, cc)
+      go false e h = absurd (other (eqb kind 2) h)
+
+pub number-known : {n c : ℕ} {cells : List ℕ} {table : List ℤ} → Numbers n cells c table → (id : ℕ) → id < n → (v : ℤ) → constantAt cells id ≡ constant.Number v → Number v
+number-known {cells} h id l v e =
+    let p = number-read (kindAt cells id) (payloadAt cells id) v e in
+    subst Number (p .1) (h .at id l (p .0) .0)
