@@ -1,46 +1,36 @@
 -- Each call keeps what holds of a store, whichever way it ends.
-use Prim.Native.Nat.{ℕ, _+_, _*_, _≤_, _<_}
+use Prim.Native.Nat.{ℕ, _+_, _≤_}
 use native.Mathlib.Omega.{arith}
-use mathlib.Core.Path.{_≡_, refl, sym, ap, _∙_}
+use mathlib.Core.Path.{_≡_, refl, ap, _∙_}
 use mathlib.Core.Logic.{_⊎_, inl, inr}
-use mathlib.Core.Bool.{Bool, true, false, cond, _&&_}
-use mathlib.Core.List.{List, [], _∷_}
-use borrow.Author.Tests.{leb-true}
+use mathlib.Core.Bool.{true, _&&_}
 use lib.Dec.{leb, ltb, eqb}
-use lib.IntN.{ℤ}
 use lib.ListN.{length}
-use lib.Seq.{sets, length-sets}
-use Rattle.integers.specs.Order.{Number}
-use Rattle.integers.proofs.Tests.{and-left, and-right}
 use Rattle.limits.specs.Refusal.{Told}
 use Rattle.limits.specs.Metered.{Run}
-use Rattle.limits.specs.Budget.{work}
 use Rattle.limits.proofs.Ends.{Ends, completes, stops, ends-pure, ends-test, ends-as, ends-both}
 use Rattle.keys.specs.Key.{Key, number, name}
 use Rattle.nodes.specs.declared.Expression.{Expression}
-use Rattle.rows.specs.Row.{row}
 use Rattle.store.specs.declared.Context.{Context}
-use Rattle.store.specs.declared.Context.the-variants.{None, Some}
-use Rattle.store.specs.declared.Counts.{Counts}
+use Rattle.store.specs.declared.Context.the-variants.{Some}
 use Rattle.store.specs.declared.Store.{Store}
 use Rattle.store.specs.Store.{withContext}
-use Rattle.store.specs.Calls.{open?, arityOf, firstOf, contextCall, workCall, argumentCall, predicateCall}
-use Rattle.store.specs.Calls as store
+use Rattle.store.specs.Calls.{open?, arityOf, firstOf, contextCall, workCall, argumentCall}
 use Rattle.store.proofs.Frame.{spends-work, Charging}
 use Rattle.constants.specs.Constant.{bytesOf, spacious, constantCall}
 use Rattle.constants.specs.Constant as constants
 use Rattle.constants.proofs.CodeLaws.{room-yes}
-use Rattle.constants.proofs.Kept.{Accepted, Declined, constant-keeps}
+use Rattle.constants.proofs.Kept.{Accepted, Declined}
 use Rattle.constants.proofs.Kept as kept
 use Rattle.constants.proofs.Steps.{in-some-way, Limited, pays}
 use Rattle.expressions.specs.Expression.{expressionCall}
 use Rattle.expressions.specs.Expression as expressions
 use Rattle.expressions.proofs.Nested.{nested-more-constants, expression-ends}
 use Rattle.expressions.proofs.Nested as nested
-use Rattle.input.specs.Input.{Tables, Call, Reply, done, id, TypedKey, withHeader, forPredicate, fromPredicate, forConstant, fromConstant, forExpression, fromExpression, forValue, fromValue, forInterval, fromInterval, call}
+use Rattle.input.specs.Input.{Tables, Call, done, id, TypedKey, withHeader, forConstant, fromConstant, forExpression, fromExpression, call}
 use Rattle.input.specs.Input as input
-use Rattle.input.proofs.Reached.{Sized, Counted, Reached}
-use Rattle.input.proofs.Left.{on-ends, Steady, steady-none, steady-charge, Leaves, Refused, early, Beyond, beyond-none, Held, held-reached, left-reached, given-more, given-few, numbers-given, seeded-given, number-known}
+use Rattle.input.proofs.Reached.{Reached}
+use Rattle.input.proofs.Left.{on-ends, Steady, steady-none, steady-charge, Leaves, Refused, early, Beyond, beyond-none, held-reached, left-reached, given-more, given-few, numbers-given, seeded-given}
 
 -- ---- what a call leaves
 
@@ -51,7 +41,7 @@ leaves-header : {t : Tables} {s : Store} → Steady (t .header) s → Leaves t (
 leaves-header h = record { predicates = refl; names = refl; constants = refl; order = refl; nodes = refl; seeds = refl; rules = refl; header = h }
 
 -- a call that is turned down at once
-refused-none : {t : Tables} → Reached t → (e : Told) → Refused t e t
+pub refused-none : {t : Tables} → Reached t → (e : Told) → Refused t e t
 refused-none {t} r e = record { reached = r; leaves = leaves-header (steady-none (t .header)); untouched = λ _. refl }
 
 module _ {t : Tables} (r : Reached t) {s : Store} (c : Charging (t .header) s) where
@@ -104,10 +94,10 @@ argument-keeps p i t r =
 
 -- ---- room that a call found, where it changed anything
 
-abbrev Roomy : {S A : Type 0} → Type 0 → S → Run Told S A → Type 0
+abbrev pub Roomy : {S A : Type 0} → Type 0 → S → Run Told S A → Type 0
 Roomy R t x = Ends (λ _ _. R) (λ _ u. (u ≡ t) ⊎ R) x
 
-roomy : {S A R : Type 0} {t : S} {x : Run Told S A} → R → Roomy R t x
+pub roomy : {S A R : Type 0} {t : S} {x : Run Told S A} → R → Roomy R t x
 roomy {x} r = ends-as (in-some-way x) (λ _ _ _. r) (λ _ _ _. inr r)
 
 -- ---- `constant`
@@ -205,10 +195,10 @@ module _ {t : Tables} (r : Reached t) (k : Key) where
         few-records = rw (d .still .header .provenance) (r .counted .provenance);
       }
 
-pub constant-keeps-all : (k : Key) (t : Tables) → TypedKey k → Reached t → Keeps (input.constant k) t
+pub constant-keeps : (k : Key) (t : Tables) → TypedKey k → Reached t → Keeps (input.constant k) t
 unfolding call
-constant-keeps-all k t typed r =
-    on-ends forConstant fromConstant id (constantCall k) t (ends-both (constant-keeps k (typed-key k typed) (forConstant t) (r .keyed) (r .rises)) (constant-room k (forConstant t)))
+constant-keeps k t typed r =
+    on-ends forConstant fromConstant id (constantCall k) t (ends-both (kept.constant-keeps k (typed-key k typed) (forConstant t) (r .keyed) (r .rises)) (constant-room k (forConstant t)))
     (λ i u p. constant-accepted r k typed (p .0) (p .1))
     (λ e u p. constant-declined r k (p .0) (p .1))
 

@@ -2,7 +2,7 @@
 use Prim.Native.Nat.{ℕ, _+_, _*_, _≤_, _<_}
 use native.Mathlib.Omega.{arith}
 use native.Mathlib.Decide.{decLt}
-use mathlib.Core.Path.{_≡_, refl, sym, ap, subst, _∙_}
+use mathlib.Core.Path.{_≡_, refl, sym, subst, _∙_}
 use mathlib.Core.Logic.{_⊎_, inl, inr}
 use mathlib.Core.Bool.{Bool, true, false, cond}
 use mathlib.Core.List.{List}
@@ -14,7 +14,6 @@ use Rattle.integers.specs.Order.{Number}
 use Rattle.limits.specs.Refusal.{Told}
 use Rattle.limits.specs.Metered.{Metered, pure}
 use Rattle.limits.proofs.Ends.{Ends, completes}
-use Rattle.interval.specs.declared.Constant.{Constant}
 use Rattle.interval.specs.declared.Constant.the-variants.{Name, Large}
 use Rattle.interval.specs.declared.Constant.the-variants as constant
 use Rattle.lattice.specs.Constants.{constantOf, constantAt}
@@ -29,7 +28,7 @@ use Rattle.constants.proofs.Steps.{on-bind}
 use Rattle.seeds.proofs.Seeded.{Seeded, seeded-constants}
 use Rattle.seeds.proofs.Beside.{Standing}
 use Rattle.input.specs.Input.{Tables, Reply, TypedKey, on}
-use Rattle.input.proofs.Reached.{Sized, Counted, Numbers, Reached}
+use Rattle.input.proofs.Reached.{Numbers, Reached}
 
 -- ---- a call on a part of the store
 

@@ -1,3 +1,5 @@
 pub mod Reached
 pub mod Left
 pub mod Calls
+pub mod SeedCalls
+pub mod Played

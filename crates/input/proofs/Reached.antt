@@ -1,5 +1,5 @@
 -- What holds of a store between calls, and of a fresh one. `Played` shows that every list of calls keeps it.
-use Prim.Native.Nat.{ℕ, _+_, _*_, _≤_, _<_}
+use Prim.Native.Nat.{ℕ, _*_, _≤_, _<_}
 use native.Mathlib.Omega.{arith}
 use mathlib.Core.Path.{_≡_, refl}
 use mathlib.Core.Bool.{Bool, true, false, cond}
@@ -11,8 +11,8 @@ use lib.ListN.{length}
 use Rattle.integers.specs.Order.{Number}
 use Rattle.limits.specs.declared.Limits.{Limits}
 use Rattle.limits.specs.declared.Refusal.the-variants.{Shape}
-use Rattle.limits.specs.Refusal.{Told, told}
-use Rattle.limits.specs.Metered.{Run, going, stopped}
+use Rattle.limits.specs.Refusal.{told}
+use Rattle.limits.specs.Metered.{going, stopped}
 use Rattle.cells.specs.Cells.{ofCell}
 use Rattle.thresholds.proofs.Sorted.{Rises, rises-none}
 use Rattle.keys.specs.Key.{Key, number, kindAt, payloadAt, keyAt}
@@ -20,7 +20,6 @@ use Rattle.nodes.specs.Node as nodes
 use Rattle.rows.specs.Row.{row}
 use Rattle.store.specs.declared.Phase.the-variants.{Open, Absent}
 use Rattle.store.specs.declared.Counts.{Counts}
-use Rattle.store.specs.declared.Store.{Store}
 use Rattle.store.specs.Store.{empty, freshOf}
 use Rattle.constants.proofs.Keyed.{Retained, Keyed, keyed-none}
 use Rattle.constants.proofs.Keyed as keyed
