@@ -1,9 +1,9 @@
 -- What the checks of a rule leave, over plain variables.
-use Prim.Native.Nat.{ℕ, zero, suc, _+_, _*_, _<_, _≤_}
+use Prim.Native.Nat.{ℕ, zero, suc, _+_, _<_, _≤_}
 use native.Mathlib.Omega.{arith}
 use native.Mathlib.Numerals.{add-one}
 use mathlib.Core.Path.{_≡_, refl, sym, ap, subst, _∙_}
-use mathlib.Core.Bool.{Bool, true, false, cond}
+use mathlib.Core.Bool.{Bool, true, false}
 use mathlib.Core.List.{List, [], _∷_}
 use lib.Dec.{leb, ltb, eqb}
 use lib.ListN.{length, getD, take, drop, length-take, drop-of-length-le}
@@ -14,7 +14,7 @@ use Rattle.limits.specs.declared.Stop.{Stop}
 use Rattle.limits.specs.declared.Charged.{Charged}
 use Rattle.limits.specs.declared.Charged.the-variants.{Paid, Stopped}
 use Rattle.limits.specs.declared.Refusal.{Refusal}
-use Rattle.limits.specs.declared.Refusal.the-variants.{Limit, Missing, MissingSlot}
+use Rattle.limits.specs.declared.Refusal.the-variants.{Closed, Shape, Full, Limit, Missing, MissingSlot}
 use Rattle.limits.specs.Refusal.{Told, told}
 use Rattle.limits.specs.Charge.{chargeOf}
 use Rattle.limits.specs.Metered.{Run, going, stopped, Metered, pure, after, _>>=_, _>>_, through, mapped}
@@ -27,23 +27,23 @@ use Rattle.nodes.specs.declared.Expression.{Expression}
 use Rattle.nodes.specs.declared.Expression.the-variants.{Constant, Slot, Unary, Absolute, Binary, Unknown}
 use Rattle.nodes.specs.declared.UnaryOp.{UnaryOp}
 use Rattle.nodes.specs.declared.BinaryOp.{BinaryOp}
-use Rattle.nodes.specs.declared.Node.{Node}
 use Rattle.nodes.specs.Node.{nodeAt, expressionOf, expressionAt}
 use Rattle.nodes.proofs.NodeLaws.{Below, children-smaller}
 use Rattle.rules.specs.declared.Binding.{Binding}
 use Rattle.rules.specs.declared.Guard.{Guard}
 use Rattle.limits.specs.declared.Budget.{Budget}
 use Rattle.limits.specs.Records.{withCount, withStatistics}
-use Rattle.limits.proofs.Ends.{Ends, completes, stops, where-going, ends-as, ends-then, ends-through}
+use Rattle.limits.proofs.Ends.{Ends, completes, stops, ends-pure, where-going, ends-as, ends-then, ends-through}
 use Rattle.rules.specs.declared.Head.{Head}
 use Rattle.rules.specs.declared.Rule.{Rule}
+use Rattle.rules.specs.Rule.{bindingsOf, guardsOf, headsOf, putRule}
 use Rattle.integers.proofs.Tests.{and-left, and-right}
 use Rattle.limits.specs.Budget.{work, links}
 use Rattle.store.specs.declared.Store.{Store}
 use Rattle.store.specs.declared.Done.{Done}
 use Rattle.store.specs.declared.Done.the-variants.{Ok}
 use Rattle.store.specs.declared.Done.the-variants as answer
-use Rattle.store.specs.Store.{withBudget}
+use Rattle.store.specs.Store.{admits, withBudget, withRules}
 use Rattle.store.specs.Answers.{done}
 use Rattle.provenance.specs.Provenance.{Records, records, provenance, recordable, Room}
 use Rattle.provenance.specs.Answers.{Recorded}
@@ -54,7 +54,7 @@ use Rattle.store.specs.declared.Context.the-variants.{None, Some}
 use Rattle.store.specs.Calls.{unless, charged}
 use Rattle.producers.specs.declared.Checked.{Checked}
 use Rattle.producers.specs.declared.Checked.the-variants.{Passed, Refused}
-use Rattle.producers.specs.Producer.{Scope, scope, step, each, slotIn, checkNode, checkIn, checkExpression, checkPair, checkValue, checkBinding, checkGuard, checking, checkHead, checkHeads, shapely, sizes, spacious, cost}
+use Rattle.producers.specs.Producer.{Scope, step, each, slotIn, checkNode, checkIn, checkExpression, checkPair, checkValue, checkBinding, checkGuard, checking, checkHead, checkHeads, shapely, sizes, spacious, cost, scopeOf, checkBody, checkRule, Tables, tables, inHeader, inRecords, addRule, ruleCall}
 use Rattle.producers.specs.Answers.{ended, checkedIn, Checks, Asks, Leaves}
 
 -- ---- a check, step by step
@@ -318,6 +318,7 @@ module _ (sc : Scope) (h : Head) (s : Store) (t : List ℕ) where
 -- what a head leaves of the counts that `provenance` asks for
 record Counted (n : ℕ) (r r′ : Records) : Type 0 where
   positions : r′ .header .counts .positions ≡ r .header .counts .positions
+  rules : r′ .header .counts .rules ≡ r .header .counts .rules
   context : r′ .header .context ≡ r .header .context
   few : r′ .header .counts .provenance ≤ r .header .counts .provenance + n
 
@@ -331,8 +332,8 @@ unfolding checkHead
 head-left sc h r =
     ends-then {P = λ _ r′. Counted 0 r r′} {Q = λ _ _. Unit {0}} _ (provenance (h .argument)) r
     (ends-through (λ t. t .header) (λ t s. records s (t .table)) (λ t s. records s (t .table)) (λ e. e) {P = λ _ s. (s .counts ≡ r .header .counts) × (s .context ≡ r .header .context)} {Q = λ _ _. Unit {0}}
-    (checking (checkValue sc (h .value))) r checked (λ _ s p. record { positions = rw (p .0); context = p .1; few = rw (p .0) (omega arith) }) (λ _ _ _. tt))
-    (λ _ t p. ends-as (provenance-left (h .argument) t) (λ _ u q. record { positions = rw (q .is) (p .positions); context = rw (q .is) (p .context); few = omega (arith, p .few, q .few) }) (λ _ _ _. tt))
+    (checking (checkValue sc (h .value))) r checked (λ _ s p. record { positions = rw (p .0); rules = rw (p .0); context = p .1; few = rw (p .0) (omega arith) }) (λ _ _ _. tt))
+    (λ _ t p. ends-as (provenance-left (h .argument) t) (λ _ u q. record { positions = rw (q .is) (p .positions); rules = rw (q .is) (p .rules); context = rw (q .is) (p .context); few = omega (arith, p .few, q .few) }) (λ _ _ _. tt))
     (λ _ _ _. tt)
   where
     checked : Ends (λ _ s. (s .counts ≡ r .header .counts) × (s .context ≡ r .header .context)) (λ _ _. Unit {0}) (checking (checkValue sc (h .value)) (r .header))
@@ -483,11 +484,116 @@ module _ (r : Rule) (s : Store) {x : Done} (h : done x ≡ charged (work 1) s) w
       go (going a b) q = let z : _≡_ {A = ℕ} 0 1 = cc in absurd (omega arith)
       go (stopped t b) q = q
 
-  pub cost-second : (y : Done) {u : Store} {n : ℕ} → x ≡ Ok u → n ≡ r .slots + r .lengths .bindings + r .lengths .guards + r .lengths .heads + 1 → done y ≡ charged (links n) u → done y ≡ charged (cost r) s
+  pub cost-second : {u : Store} {y : Run Told Store (Unit {0})} → x ≡ Ok u → y ≡ charged (links (r .slots + r .lengths .bindings + r .lengths .guards + r .lengths .heads + 1)) u → y ≡ charged (cost r) s
   unfolding cost through mapped _>>_ _>>=_ after
-  cost-second y {u} e n k = go (work 1 (s .budget)) (sym (ap done e) ∙ h)
+  cost-second {u} {y} e k = go (work 1 (s .budget)) (sym (ap done e) ∙ h)
     where
       go : (z : Run Stop Budget (Unit {0})) → going tt u ≡ mapped (λ v. v) (λ v. v) (λ e. told (Limit e)) (mapped (λ b. withBudget b s) (λ b. withBudget b s) (λ e. e) z) →
-          done y ≡ mapped (λ v. v) (λ v. v) (λ e. told (Limit e)) (mapped (λ b. withBudget b s) (λ b. withBudget b s) (λ e. e) (after z (λ _. links (r .slots + r .lengths .bindings + r .lengths .guards + r .lengths .heads + 1))))
-      go (going a b) q = let w : u ≡ withBudget b s = cc in k ∙ rw (w, n)
+          y ≡ mapped (λ v. v) (λ v. v) (λ e. told (Limit e)) (mapped (λ b. withBudget b s) (λ b. withBudget b s) (λ e. e) (after z (λ _. links (r .slots + r .lengths .bindings + r .lengths .guards + r .lengths .heads + 1))))
+      go (going a b) q = let w : u ≡ withBudget b s = cc in k ∙ rw w
       go (stopped t b) q = let z : _≡_ {A = ℕ} 0 1 = cc in absurd (omega arith)
+
+-- ---- the body, and the whole check
+
+module _ (arguments : ℕ) (s : Scope) (r : Rule) {w mw : ℕ} {c : Checked} (d : Checks (each (λ i. checkBinding arguments s (i .binding)) (bindingsOf r)) w mw c) where
+  pub body-first : {f : Refusal} {n : ℕ} → c ≡ Refused f n → Checks (checkBody arguments s r) w mw (Refused f n)
+  unfolding checkBody
+  body-first z = checks-stop _ _ (rw z at d)
+
+  pub body-both : {n : ℕ} {x : Checked} → c ≡ Passed n → Checks (each (λ i. checkGuard s (i .guard)) (guardsOf r)) n mw x → Checks (checkBody arguments s r) w mw x
+  unfolding checkBody
+  body-both z g = checks-then _ _ (rw z at d) g
+
+module _ (nodes : List ℕ) (r : Rule) (s : Store) (t : List ℕ) where
+  pub rule-body : {f : Refusal} {u : Store} → stopped (told f) u ≡ checking (checkBody (s .counts .positions) (scopeOf nodes s r) r) s → Leaves (checkRule nodes r) s t (answer.Refused f u) t
+  unfolding checkRule
+  rule-body p = record { is = then-stop _ (records s t) _ (through-stop (λ r. r .header) (λ r s. records s (r .table)) (λ r s. records s (r .table)) (λ e. e) _ (records s t) p) }
+
+  pub rule-heads : {u : Store} {x : Done} {t′ : List ℕ} → going tt u ≡ checking (checkBody (s .counts .positions) (scopeOf nodes s r) r) s → Leaves (checkHeads (scopeOf nodes s r) (headsOf r)) u t x t′ →
+      Leaves (checkRule nodes r) s t x t′
+  unfolding checkRule
+  rule-heads p q = record { is = then-on _ (records s t) _ (through-on (λ r. r .header) (λ r s. records s (r .table)) (λ r s. records s (r .table)) (λ e. e) _ (records s t) p) (q .is) }
+
+-- ---- the call
+
+module _ (nodes : List ℕ) (r : Rule) (s : Store) (rules p : List ℕ) {a : Bool} (ea : a ≡ sizes (length nodes) (length rules) (length p)) where
+  pub call-size : a ≡ false → stopped (told Shape) (tables s rules p) ≡ ruleCall nodes r (tables s rules p)
+  unfolding ruleCall
+  call-size e = rw (← ea, e)
+
+  module _ (fa : a ≡ true) {b : Bool} (eb : b ≡ shapely r) where
+    pub call-shape : b ≡ false → stopped (told Shape) (tables s rules p) ≡ ruleCall nodes r (tables s rules p)
+    unfolding ruleCall
+    call-shape e = rw (← ea, fa, ← eb, e)
+
+    module _ (fb : b ≡ true) {c : Bool} (ec : c ≡ admits (s .phase)) where
+      pub call-closed : c ≡ false → stopped (told Closed) (tables s rules p) ≡ ruleCall nodes r (tables s rules p)
+      unfolding ruleCall
+      call-closed e = rw (← ea, fa, ← eb, fb, ← ec, e)
+
+      module _ (fc : c ≡ true) {d : Bool} (ed : d ≡ spacious s) where
+        pub call-full : d ≡ false → stopped (told Full) (tables s rules p) ≡ ruleCall nodes r (tables s rules p)
+        unfolding ruleCall
+        call-full e = rw (← ea, fa, ← eb, fb, ← ec, fc, ← ed, e)
+
+        module _ (fd : d ≡ true) {x : Done} (h : done x ≡ charged (cost r) s) where
+          pub call-unpaid : {f : Refusal} {u : Store} → x ≡ answer.Refused f u → stopped (told f) (tables u rules p) ≡ ruleCall nodes r (tables s rules p)
+          unfolding ruleCall
+          call-unpaid e =
+              rw (← ea, fa, ← eb, fb, ← ec, fc, ← ed, fd)
+              (then-stop (inHeader (charged (cost r))) (tables s rules p) _
+              (through-stop (λ t. t .header) (λ t s. tables s (t .rules) (t .records)) (λ t s. tables s (t .rules) (t .records)) (λ e. e) (charged (cost r)) (tables s rules p) (sym (ap done e) ∙ h)))
+
+          module _ {u : Store} (e : x ≡ Ok u) {y : Done} {p′ : List ℕ} (l : Leaves (checkRule nodes r) u p y p′) where
+            paid : {z : Run Told Tables ℕ} → z ≡ (inRecords (checkRule nodes r) >> addRule r) (tables u rules p) → z ≡ ruleCall nodes r (tables s rules p)
+            unfolding ruleCall
+            paid k =
+                rw (← ea, fa, ← eb, fb, ← ec, fc, ← ed, fd)
+                (then-on (inHeader (charged (cost r))) (tables s rules p) _
+                (through-on (λ t. t .header) (λ t s. tables s (t .rules) (t .records)) (λ t s. tables s (t .rules) (t .records)) (λ e. e) (charged (cost r)) (tables s rules p) (sym (ap done e) ∙ h)) k)
+
+            pub call-refused : {f : Refusal} {v : Store} → y ≡ answer.Refused f v → stopped (told f) (tables v rules p′) ≡ ruleCall nodes r (tables s rules p)
+            call-refused k =
+                paid
+                (then-stop (inRecords (checkRule nodes r)) (tables u rules p) _
+                (through-stop (λ t. records (t .header) (t .records)) (λ t q. tables (q .header) (t .rules) (q .table)) (λ t q. tables (q .header) (t .rules) (q .table)) (λ e. e) (checkRule nodes r) (tables u rules p) (recorded-stop k (l .is))))
+
+            pub call-id : {v w : Store} {rules′ : List ℕ} → y ≡ Ok v → v .counts .rules ≡ s .counts .rules → v .context ≡ s .context → rules′ ≡ putRule rules (s .counts .rules) r (s .context) →
+                w ≡ withRules (v .counts .rules + 1) v → going (s .counts .rules) (tables w rules′ p′) ≡ ruleCall nodes r (tables s rules p)
+            call-id k i j q g =
+                paid
+                (then-on (inRecords (checkRule nodes r)) (tables u rules p) _
+                (through-on (λ t. records (t .header) (t .records)) (λ t q. tables (q .header) (t .rules) (q .table)) (λ t q. tables (q .header) (t .rules) (q .table)) (λ e. e) (checkRule nodes r) (tables u rules p) (recorded-on k (l .is)))
+                (rw (q, g, i, j)))
+
+-- a whole check leaves the count of rules and the context
+abbrev Kept : Records → Records → Type 0
+Kept r r′ = (r′ .header .counts .rules ≡ r .header .counts .rules) × (r′ .header .context ≡ r .header .context)
+
+heads-kept : (sc : Scope) (l : List Head) (r : Records) → Ends (λ _ r′. Kept r r′) (λ _ _. Unit {0}) (checkHeads sc l r)
+unfolding checkHeads
+heads-kept sc [] r = ends-pure tt r (refl, refl)
+heads-kept sc (h ∷ l) r =
+    ends-then {P = λ _ r′. Kept r r′} {Q = λ _ _. Unit {0}} (checkHead sc h) (checkHeads sc l) r
+    (ends-as (head-left sc h r) (λ _ r′ p. (p .rules, p .context)) (λ _ _ _. tt))
+    (λ _ t p. ends-as (heads-kept sc l t) (λ _ u q. (q .0 ∙ p .0, q .1 ∙ p .1)) (λ _ _ _. tt))
+    (λ _ _ _. tt)
+
+rule-left : (nodes : List ℕ) (r : Rule) (t : Records) → Ends (λ _ u. Kept t u) (λ _ _. Unit {0}) (checkRule nodes r t)
+unfolding checkRule
+rule-left nodes r t =
+    ends-then {P = λ _ u. Kept t u} {Q = λ _ _. Unit {0}} _ (checkHeads (scopeOf nodes (t .header) r) (headsOf r)) t
+    (ends-through (λ u. u .header) (λ u s. records s (u .table)) (λ u s. records s (u .table)) (λ e. e) {P = λ _ s. (s .counts .rules ≡ t .header .counts .rules) × (s .context ≡ t .header .context)} {Q = λ _ _. Unit {0}}
+    (checking body) t
+    (ends-through (λ s. meterOf (s .budget)) (λ s m. withBudget (withMeter m (s .budget)) s) (λ s m. withBudget (withMeter m (s .budget)) s) (λ e. e) {P = λ _ _. Unit {0}} {Q = λ _ _. Unit {0}}
+    body (t .header) (ends-any _) (λ _ _ _. (refl, refl)) (λ _ _ _. tt))
+    (λ _ s p. p) (λ _ _ _. tt))
+    (λ _ u p. ends-as (heads-kept (scopeOf nodes (t .header) r) (headsOf r) u) (λ _ v q. (q .0 ∙ p .0, q .1 ∙ p .1)) (λ _ _ _. tt))
+    (λ _ _ _. tt)
+  where
+    body : Check
+    body = checkBody (t .header .counts .positions) (scopeOf nodes (t .header) r) r
+
+pub rule-kept : (nodes : List ℕ) (r : Rule) (s : Store) (t : List ℕ) {y : Done} {v : Store} {t′ : List ℕ} → Leaves (checkRule nodes r) s t y t′ → y ≡ Ok v →
+    (v .counts .rules ≡ s .counts .rules) × (v .context ≡ s .context)
+rule-kept nodes r s t l e = where-going (subst (Ends (λ _ u. Kept (records s t) u) (λ _ _. Unit {0})) (sym (recorded-on e (l .is))) (rule-left nodes r (records s t)))

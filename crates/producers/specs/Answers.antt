@@ -2,7 +2,6 @@
 use Prim.Native.Nat.{ℕ}
 use mathlib.Core.Path.{_≡_}
 use mathlib.Core.List.{List}
-use Rattle.limits.specs.declared.Refusal.{Refusal}
 use Rattle.limits.specs.Refusal.{Told, told}
 use Rattle.limits.specs.declared.Resource.the-variants.{Work}
 use Rattle.limits.specs.Records.{withCount, withStatistics}

@@ -6,14 +6,13 @@ use mathlib.Core.List.{[], _∷_}
 use lib.Dec.{ltb}
 use lib.Seq.{sets}
 use Rattle.limits.specs.declared.Budget.{Budget}
-use Rattle.limits.specs.Metered.{pure, _>>_}
 use Rattle.limits.specs.Budget.{links}
 use Rattle.limits.proofs.Ends.{Ends, completes, stops, ends-pure, ends-test, ends-then, ends-through}
 use Rattle.store.specs.declared.Context.{Context}
 use Rattle.store.specs.declared.Context.the-variants.{None, Some}
 use Rattle.store.specs.Store.{withBudget, withProvenance}
 use Rattle.store.specs.Calls.{charged}
-use Rattle.store.proofs.Frame.{Spent, spent-none, spent-more, Charging, charging-none, charged-left, spends-links}
+use Rattle.store.proofs.Frame.{Spent, spent-more, Charging, charging-none, charged-left, spends-links}
 use Rattle.provenance.specs.Provenance.{Records, records, paying, addRecord, recordIn, provenance}
 
 pub record Recording (n : ℕ) (r r′ : Records) : Type 0 where

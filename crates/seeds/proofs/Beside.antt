@@ -1,12 +1,14 @@
 -- What a call leaves of the header beside what it is for, whichever way it ends, and how a charge in a call ends.
-use Prim.Native.Nat.{ℕ, _+_, _≤_}
+use Prim.Native.Nat.{ℕ, _+_, _*_, _≤_, _<_}
 use native.Mathlib.Omega.{arith}
 use mathlib.Core.Path.{_≡_, refl, _∙_}
 use mathlib.Core.Bool.{Bool, true, false, cond}
 use mathlib.Core.List.{List}
 use lib.Dec.{leb}
+use lib.ListN.{getD}
 use Rattle.limits.specs.declared.Resource.{Resource}
 use Rattle.limits.specs.declared.Resource.the-variants.{Work, Predicates, Positions, Links, ValueEntries, Rounds, InspectedBytes}
+use Rattle.limits.specs.declared.Limits.{Limits}
 use Rattle.limits.specs.declared.Stop.{Stop}
 use Rattle.limits.specs.declared.Budget.{Budget}
 use Rattle.limits.specs.declared.Refusal.the-variants.{Limit}
@@ -18,11 +20,12 @@ use Rattle.limits.specs.Records.{limitOf, countOf, withCount, withStatistics}
 use Rattle.limits.specs.Budget.{charge}
 use Rattle.limits.specs.Budget as budgets
 use Rattle.limits.proofs.Ends.{Ends, completes, stops, ends-through}
+use Rattle.store.specs.declared.Phase.{Phase}
 use Rattle.store.specs.declared.Store.{Store}
-use Rattle.store.specs.Store.{withBudget}
+use Rattle.store.specs.Store.{withBudget, empty}
 use Rattle.store.specs.Calls.{charged}
 use Rattle.store.proofs.Frame.{Spent}
-use Rattle.seeds.proofs.Seeded.{Seeded, Live, Lost}
+use Rattle.seeds.proofs.Seeded.{Seeded, Live, Lost, seeded-none, live-none, lost-none, seeded-constants}
 
 -- ---- a store with its seeds
 
@@ -30,6 +33,20 @@ pub record Standing (constants : List ℕ) (s : Store) (seeds : List ℕ) : Type
   pub seeded : Seeded (s .budget .limits .width) (s .counts .constants) (s .counts .positions) constants seeds
   pub live : Live (s .budget .statistics .entries) (s .counts .positions) seeds
   pub lost : Lost (s .budget .statistics .widened) (s .counts .positions) seeds
+
+-- a new store has no arguments
+pub standing-none : (constants : List ℕ) (l : Limits) (p : Phase) (seeds : List ℕ) → Standing constants (empty l p) seeds
+standing-none constants l p seeds = record { seeded = seeded-none (l .width) 0 constants seeds; live = live-none seeds; lost = lost-none seeds }
+
+-- the calls that are not about seeds: there may be more constants, and those that stood have their kinds
+pub standing-on : {constants constants′ seeds : List ℕ} {s s′ : Store} → s .counts .constants ≤ s′ .counts .constants →
+    ((id : ℕ) → id < s .counts .constants → getD constants′ (2 * id) 0 ≡ getD constants (2 * id) 0) → s′ .counts .positions ≡ s .counts .positions → s′ .budget .limits ≡ s .budget .limits →
+    s′ .budget .statistics .entries ≡ s .budget .statistics .entries → s′ .budget .statistics .widened ≡ s .budget .statistics .widened → Standing constants s seeds → Standing constants′ s′ seeds
+standing-on {constants} {constants′} {seeds} {s} {s′} more kinds p l e w h = record {
+  seeded = rw (l, p) (seeded-constants (s .counts .constants) (s′ .counts .constants) constants constants′ more kinds (s .budget .limits .width) (s .counts .positions) seeds (h .seeded));
+  live = rw (e, p) (h .live);
+  lost = rw (w, p) (h .lost);
+}
 
 -- ---- what stays of the header s in s′
 

@@ -204,6 +204,11 @@ pub noted-size : (a : ℕ) (c : Context) (n n′ : ℕ) (table table′ : List �
 noted-size a None n n′ table table′ h = ap length (h .1)
 noted-size a (Some c) n n′ table table′ h = ap length (h .1) ∙ length-sets table (2 * n) (a ∷ c ∷ [])
 
+-- with room for one there is room for it
+pub noted-fits : (a : ℕ) (c : Context) (n n′ : ℕ) (table table′ : List ℕ) → Noted a c n table n′ table′ → recordable c n ≡ true → n ≤ 1024 → n′ ≤ 1024
+noted-fits a None n n′ table table′ h r l = omega (arith, h .0)
+noted-fits a (Some c) n n′ table table′ h r l = omega (arith, h .0, leb-true n 1008 r)
+
 -- a step that leaves the seeds alone
 pub record Notes (a : ℕ) (s : Store) (table : List ℕ) (s′ : Store) (table′ : List ℕ) : Type 0 where
   pub inside : a < s .counts .positions
@@ -274,6 +279,7 @@ pub record ValueTaken (constants : List ℕ) (a k : ℕ) (t t′ : Tables) : Typ
   -- the header, but for the budget and for one provenance record where a context is in force
   pub beside : Beside 1 0 (t .header) (t′ .header)
   pub noted : Noted a (t .header .context) (t .header .counts .provenance) (t .records) (t′ .header .counts .provenance) (t′ .records)
+  pub fits : t .header .counts .provenance ≤ 1024 → t′ .header .counts .provenance ≤ 1024
   -- the argument exists; its seed is joined with the constant, and the others are as they were
   pub inside : a < t .header .counts .positions
   pub joined : valueAt (t′ .seeds) a ≡ joinedValue (t .header .budget .limits .width) (valueAt (t .seeds) a) (constantSeed k (constantAt constants k) (t .header .budget .limits .width))
@@ -287,14 +293,16 @@ pub record ValueRefused (a : ℕ) (x : Told) (t t′ : Tables) : Type 0 where
   pub quiet : Quiet 1 0 (t .header) (t′ .header)
   -- the provenance record that comes before the seed stays
   pub noted : Noted a None (t .header .counts .provenance) (t .records) (t′ .header .counts .provenance) (t′ .records) ⊎ Noted a (t .header .context) (t .header .counts .provenance) (t .records) (t′ .header .counts .provenance) (t′ .records)
+  pub fits : t .header .counts .provenance ≤ 1024 → t′ .header .counts .provenance ≤ 1024
   -- a store that is closed or has no room, and tables of another size, are left whole
   pub whole : x .number ≤ 2 → t′ ≡ t
 
 module _ (constants : List ℕ) (a k : ℕ) (t : Tables) (stands : Standing constants (t .header) (t .seeds)) (numbers : k < t .header .counts .constants → (n : ℤ) → constantAt constants k ≡ number n → Number n) where
   early : (x : Told) → Ends {A = Unit {0}} (λ _ u. ValueTaken constants a k t u) (λ y u. ValueRefused a y t u) (stopped x t)
-  early x = stops record { same = refl; quiet = wider (quiet-bill (t .header) (same-bill (t .header .budget))); noted = inl (refl, refl); whole = λ _. refl }
+  early x = stops record { same = refl; quiet = wider (quiet-bill (t .header) (same-bill (t .header .budget))); noted = inl (refl, refl); fits = λ l. l; whole = λ _. refl }
 
-  module _ (b : Budget) (paid : Spent (t .header .budget) b) (exists : k < t .header .counts .constants) (few : t .header .counts .constants ≤ 1024) (room : row * t .header .counts .positions ≤ length (t .seeds)) where
+  module _ (b : Budget) (paid : Spent (t .header .budget) b) (exists : k < t .header .counts .constants) (few : t .header .counts .constants ≤ 1024) (space : recordable (t .header .context) (t .header .counts .provenance) ≡ true)
+      (room : row * t .header .counts .positions ≤ length (t .seeds)) where
     abbrev once : Store
     once = withBudget b (t .header)
 
@@ -304,6 +312,7 @@ module _ (constants : List ℕ) (a k : ℕ) (t : Tables) (stands : Standing cons
         let q : Quiet 1 0 (t .header) (u .header) = quiet-more (quiet-bill (t .header) (spent-bill paid)) (h .quiet) in
         let p = q .beside .positions in
         let c = q .beside .constants in
+        let fit = noted-fits a (t .header .context) (t .header .counts .provenance) (u .header .counts .provenance) (t .records) (u .records) (h .noted) space in
         ends-through (λ w. rows (w .header) (w .seeds)) (λ w r. tables (r .header) (r .seeds) (w .records)) (λ w r. tables (r .header) (r .seeds) (w .records)) (λ y. y)
         (seedConstant constants a k) u
         (constant-joins constants a (u .header) (u .seeds) (rw e (standing-quiet q stands)) (rw p (h .inside)) (rw (p, e) room) k (rw c exists) (rw c few) (numbers exists))
@@ -311,6 +320,7 @@ module _ (constants : List ℕ) (a k : ℕ) (t : Tables) (stands : Standing cons
           standing = j .standing;
           beside = beside-more (q .beside) (j .beside);
           noted = rw (same-count (j .beside)) (h .noted);
+          fits = λ l. rw (same-count (j .beside)) (fit l);
           inside = h .inside;
           joined = rw (e, q .beside .limits) at (j .joined);
           others = λ i d. rw e at (j .others i d);
@@ -320,6 +330,7 @@ module _ (constants : List ℕ) (a k : ℕ) (t : Tables) (stands : Standing cons
           same = j .same ∙ e;
           quiet = quiet-more q (j .quiet);
           noted = inr (rw (same-count (j .quiet .beside)) (h .noted));
+          fits = λ l. rw (same-count (j .quiet .beside)) (fit l);
           whole = λ l. absurd (omega (arith, j .late));
         })
 
@@ -336,6 +347,7 @@ module _ (constants : List ℕ) (a k : ℕ) (t : Tables) (stands : Standing cons
           same = refl;
           quiet = wider (quiet-more (quiet-bill (t .header) (spent-bill paid)) (h .quiet));
           noted = inl (h .count, h .same);
+          fits = λ l. rw (h .count) l;
           whole = λ l. absurd (omega (arith, h .late));
         }))
         (λ _ u h. value-joins u (h .0) (h .1))
@@ -352,7 +364,8 @@ module _ (constants : List ℕ) (a k : ℕ) (t : Tables) (stands : Standing cons
       ends-test (leb (t .header .counts .constants) 1024 && spacious (t .header))
       (λ f.
       let c : t .header .counts .constants ≤ 1024 = leb-true (t .header .counts .constants) 1024 (and-left _ (spacious (t .header)) f) in
-      let p : t .header .counts .positions ≤ 256 = leb-true (t .header .counts .positions) 256 (and-left _ (recordable (t .header .context) (t .header .counts .provenance)) (and-right (leb (t .header .counts .constants) 1024) _ f)) in
+      let y : spacious (t .header) ≡ true = and-right (leb (t .header .counts .constants) 1024) _ f in
+      let p : t .header .counts .positions ≤ 256 = leb-true (t .header .counts .positions) 256 (and-left _ (recordable (t .header .context) (t .header .counts .provenance)) y) in
       ends-then _ _ t
       (ends-through (λ w. w .header) (λ w s. tables s (w .seeds) (w .records)) (λ w s. tables s (w .seeds) (w .records)) (λ y. y)
       {R = λ _ u. (b : Budget) × Spent (t .header .budget) b × (u ≡ tables (withBudget b (t .header)) (t .seeds) (t .records))}
@@ -360,12 +373,12 @@ module _ (constants : List ℕ) (a k : ℕ) (t : Tables) (stands : Standing cons
       (charged (work 1)) t
       (charged-ends (work 1) (t .header) (spends-work 1 .at (t .header .budget)))
       (λ _ s q. (q .0, q .1, rw (q .2)))
-      (λ x s q. record { same = refl; quiet = rw (q .4) (wider (quiet-bill (t .header) (spent-bill (q .3)))); noted = inl (rw (q .4) (refl, refl)); whole = λ l. absurd (omega (arith, q .0)) }))
+      (λ x s q. record { same = refl; quiet = rw (q .4) (wider (quiet-bill (t .header) (spent-bill (q .3)))); noted = inl (rw (q .4) (refl, refl)); fits = λ l. rw (q .4) l; whole = λ l. absurd (omega (arith, q .0)) }))
       (λ _ u q.
       rw (q .2)
       (ends-test (ltb k (t .header .counts .constants))
-      (λ g. value-notes (q .0) (q .1) (ltb-true k (t .header .counts .constants) g) c (omega arith))
-      (λ _. stops record { same = refl; quiet = wider (quiet-bill (t .header) (spent-bill (q .1))); noted = inl (refl, refl); whole = λ l. absurd (omega arith) })))
+      (λ g. value-notes (q .0) (q .1) (ltb-true k (t .header .counts .constants) g) c (and-right (leb (t .header .counts .positions) 256) _ y) (omega arith))
+      (λ _. stops record { same = refl; quiet = wider (quiet-bill (t .header) (spent-bill (q .1))); noted = inl (refl, refl); fits = λ l. l; whole = λ l. absurd (omega arith) })))
       (λ x u q. q))
       (λ _. early _))
       (λ _. early _))

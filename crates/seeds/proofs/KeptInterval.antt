@@ -3,7 +3,7 @@ use Prim.Native.Nat.{ℕ, _+_, _*_, _≤_, _<_}
 use native.Mathlib.Omega.{arith}
 use mathlib.Core.Path.{_≡_, refl, ap, _∙_}
 use mathlib.Core.Logic.{_⊎_, inl, inr}
-use mathlib.Core.Bool.{_&&_}
+use mathlib.Core.Bool.{true, _&&_}
 use mathlib.Core.List.{List}
 use borrow.Author.Tests.{leb-true, eqb-true}
 use lib.Dec.{leb, eqb}
@@ -35,7 +35,7 @@ use Rattle.provenance.specs.Provenance.{records, provenance, recordable}
 use Rattle.seeds.specs.Seed.{rows, seed, sizes, spacious, tables, inHeader, inRecords, ends, seedEnds, IntervalTables, intervalTables, inTables, inEnds, seedIntervalCall}
 use Rattle.seeds.proofs.Seeded.{regular-numeric}
 use Rattle.seeds.proofs.Beside.{Standing, Beside, beside-more, Quiet, quiet-more, quiet-wider, wider, same-count, same-marks, standing-quiet, same-bill, quiet-bill, spent-bill, late, charged-ends}
-use Rattle.seeds.proofs.Kept.{seed-ends, Noted, Notes, Unnoted, provenance-ends}
+use Rattle.seeds.proofs.Kept.{seed-ends, Noted, noted-fits, Notes, Unnoted, provenance-ends}
 
 -- ---- thresholds
 
@@ -166,8 +166,10 @@ pub record IntervalTaken (constants : List ℕ) (a : ℕ) (low high : ℤ) (t t�
   -- the header, but for the budget, for one provenance record where a context is in force, and for up to six thresholds
   pub beside : Beside 1 6 (t .header) (t′ .header)
   pub noted : Noted a (t .header .context) (t .header .counts .provenance) (t .records) (t′ .header .counts .provenance) (t′ .records)
+  pub fits : t .header .counts .provenance ≤ 1024 → t′ .header .counts .provenance ≤ 1024
   -- both ends stand among the thresholds, with their neighbours
   pub marked : Marked (NearEither low high) (t .header) (t .thresholds) (t′ .header) (t′ .thresholds)
+  pub marks-fit : t .header .counts .thresholds ≤ 4096 → t′ .header .counts .thresholds ≤ 4096
   pub low-stands : Surrounded low (marksOf (t′ .header) (t′ .thresholds))
   pub high-stands : Surrounded high (marksOf (t′ .header) (t′ .thresholds))
   -- the ends ascend and the argument exists; its seed is joined with the interval, and the others are as they were
@@ -184,7 +186,9 @@ pub record IntervalRefused (a : ℕ) (low high : ℤ) (x : Told) (t t′ : Inter
   pub quiet : Quiet 1 6 (t .header) (t′ .header)
   -- the provenance record and the thresholds that come before the seed stay
   pub noted : Noted a None (t .header .counts .provenance) (t .records) (t′ .header .counts .provenance) (t′ .records) ⊎ Noted a (t .header .context) (t .header .counts .provenance) (t .records) (t′ .header .counts .provenance) (t′ .records)
+  pub fits : t .header .counts .provenance ≤ 1024 → t′ .header .counts .provenance ≤ 1024
   pub marked : Marked (NearEither low high) (t .header) (t .thresholds) (t′ .header) (t′ .thresholds)
+  pub marks-fit : t .header .counts .thresholds ≤ 4096 → t′ .header .counts .thresholds ≤ 4096
   -- a store that is closed or has no room, and tables of another size, are left whole
   pub whole : x .number ≤ 2 → t′ ≡ t
 
@@ -199,15 +203,16 @@ module _ (constants : List ℕ) (a : ℕ) (low high : ℤ) (t : IntervalTables) 
   early-interval : (x : Told) → Ends {A = Unit {0}} (λ _ u. IntervalTaken constants a low high t u) (λ y u. IntervalRefused a low high y t u) (stopped x t)
   early-interval x =
       let q = quiet-bill (t .header) (same-bill (t .header .budget)) in
-      stops record { same = refl; quiet = six (wider q); noted = inl (refl, refl); marked = unmarked (t .header) (q .beside); whole = λ _. refl }
+      stops record { same = refl; quiet = six (wider q); noted = inl (refl, refl); fits = λ l. l; marked = unmarked (t .header) (q .beside); marks-fit = λ l. l; whole = λ _. refl }
 
   -- only work was charged
   late-interval : (x : Told) (b : Budget) → Spent (t .header .budget) b → 3 ≤ x .number → IntervalRefused a low high x t (intervalTables (withBudget b (t .header)) (t .seeds) (t .records) (t .thresholds))
   late-interval x b paid l =
       let q = quiet-bill (t .header) (spent-bill paid) in
-      record { same = refl; quiet = six (wider q); noted = inl (refl, refl); marked = unmarked (withBudget b (t .header)) (q .beside); whole = λ m. absurd (omega arith) }
+      record { same = refl; quiet = six (wider q); noted = inl (refl, refl); fits = λ l. l; marked = unmarked (withBudget b (t .header)) (q .beside); marks-fit = λ l. l; whole = λ m. absurd (omega arith) }
 
-  module _ (b : Budget) (paid : Spent (t .header .budget) b) (ascending : Le low high) (cells : t .header .counts .thresholds + 6 ≤ length (t .thresholds)) (room : row * t .header .counts .positions ≤ length (t .seeds)) where
+  module _ (b : Budget) (paid : Spent (t .header .budget) b) (ascending : Le low high) (cells : t .header .counts .thresholds + 6 ≤ length (t .thresholds)) (space : recordable (t .header .context) (t .header .counts .provenance) ≡ true)
+      (few : t .header .counts .thresholds ≤ 4088) (room : row * t .header .counts .positions ≤ length (t .seeds)) where
     abbrev charged-once : Store
     charged-once = withBudget b (t .header)
 
@@ -218,6 +223,7 @@ module _ (constants : List ℕ) (a : ℕ) (low high : ℤ) (t : IntervalTables) 
     unfolding seedEnds
     interval-joins r s q i n =
         let e : s .counts .thresholds ≡ t .header .counts .thresholds = same-marks (q .beside) in
+        let fit = noted-fits a (t .header .context) (t .header .counts .provenance) (s .counts .provenance) (t .records) r n space in
         ends-then _ _ (ends s (t .seeds) (t .thresholds))
         (ends-through (λ w. marks (w .header) (w .thresholds)) (λ w m. ends (m .header) (w .seeds) (m .table)) (λ w m. ends (m .header) (w .seeds) (m .table)) (λ y. y)
         {R = λ _ w. (Entered (NearEither low high) 6 s (t .thresholds) (w .header) (w .thresholds) × Surrounded low (marksOf (w .header) (w .thresholds)) × Surrounded high (marksOf (w .header) (w .thresholds))) × (w .seeds ≡ t .seeds)}
@@ -229,7 +235,9 @@ module _ (constants : List ℕ) (a : ℕ) (low high : ℤ) (t : IntervalTables) 
           same = refl;
           quiet = quiet-more q (p .0 .quiet);
           noted = inr (rw (same-count (p .0 .quiet .beside)) n);
+          fits = λ l. rw (same-count (p .0 .quiet .beside)) (fit l);
           marked = over m (p .0 .marked);
+          marks-fit = λ l. omega (arith, p .0 .quiet .beside .most-marks);
           whole = λ l. absurd (omega (arith, p .1));
         }))
         (λ _ w p.
@@ -247,7 +255,9 @@ module _ (constants : List ℕ) (a : ℕ) (low high : ℤ) (t : IntervalTables) 
           standing = j .standing;
           beside = beside-more (h .beside) (j .beside);
           noted = rw (same-count (j .beside), same-count (p .0 .0 .quiet .beside)) n;
+          fits = λ l. rw (same-count (j .beside), same-count (p .0 .0 .quiet .beside)) (fit l);
           marked = marked-on d (over (marks (w .header) (w .thresholds)) (p .0 .0 .marked));
+          marks-fit = λ l. omega arith;
           low-stands = rw d (p .0 .1);
           high-stands = rw d (p .0 .2);
           ascends = ascending;
@@ -260,6 +270,8 @@ module _ (constants : List ℕ) (a : ℕ) (low high : ℤ) (t : IntervalTables) 
           same = j .same ∙ f;
           quiet = quiet-more h (j .quiet);
           noted = inr (rw (same-count (j .quiet .beside), same-count (p .0 .0 .quiet .beside)) n);
+          fits = λ l. rw (same-count (j .quiet .beside), same-count (p .0 .0 .quiet .beside)) (fit l);
+          marks-fit = λ l. omega (arith, h .beside .most-marks, same-marks (j .quiet .beside));
           marked = marked-on (same-marks (j .quiet .beside)) (over (marks (w .header) (w .thresholds)) (p .0 .0 .marked));
           whole = λ l. absurd (omega (arith, j .late));
         }))
@@ -292,6 +304,8 @@ module _ (constants : List ℕ) (a : ℕ) (low high : ℤ) (t : IntervalTables) 
           same = h .1;
           quiet = six (wider q);
           noted = inl (h .0 .count, h .0 .same);
+          fits = λ l. rw (h .0 .count) l;
+          marks-fit = λ l. rw (same-marks (q .beside)) l;
           marked = unmarked (u .header) (q .beside);
           whole = λ l. absurd (omega (arith, h .0 .late));
         }))
@@ -316,7 +330,8 @@ module _ (constants : List ℕ) (a : ℕ) (low high : ℤ) (t : IntervalTables) 
       ends-test (leb (t .header .counts .thresholds) 4088 && spacious (t .header))
       (λ f.
       let c : t .header .counts .thresholds ≤ 4088 = leb-true (t .header .counts .thresholds) 4088 (and-left _ (spacious (t .header)) f) in
-      let p : t .header .counts .positions ≤ 256 = leb-true (t .header .counts .positions) 256 (and-left _ (recordable (t .header .context) (t .header .counts .provenance)) (and-right (leb (t .header .counts .thresholds) 4088) _ f)) in
+      let o : spacious (t .header) ≡ true = and-right (leb (t .header .counts .thresholds) 4088) _ f in
+      let p : t .header .counts .positions ≤ 256 = leb-true (t .header .counts .positions) 256 (and-left _ (recordable (t .header .context) (t .header .counts .provenance)) o) in
       ends-then _ _ t
       (ends-through (λ w. tables (w .header) (w .seeds) (w .records)) (λ w u. intervalTables (u .header) (u .seeds) (u .records) (w .thresholds)) (λ w u. intervalTables (u .header) (u .seeds) (u .records) (w .thresholds)) (λ y. y)
       {R = λ _ u. (b : Budget) × Spent (t .header .budget) b × (u ≡ intervalTables (withBudget b (t .header)) (t .seeds) (t .records) (t .thresholds))}
@@ -334,7 +349,7 @@ module _ (constants : List ℕ) (a : ℕ) (low high : ℤ) (t : IntervalTables) 
       (λ _ u q.
       rw (q .2)
       (ends-test (leZ low high)
-      (λ g. interval-notes (q .0) (q .1) (le-yes low high g) (omega arith) (omega arith))
+      (λ g. interval-notes (q .0) (q .1) (le-yes low high g) (omega arith) (and-right (leb (t .header .counts .positions) 256) _ o) c (omega arith))
       (λ _. stops (late-interval (told Descending) (q .0) (q .1) (omega arith)))))
       (λ x u q. q))
       (λ _. early-interval _))

@@ -60,12 +60,14 @@ pub record PredicateTaken (constants : List ℕ) (arity id : ℕ) (t t′ : stor
 -- refused: nothing is changed but for one unit of work, and with number 1 or 2 not even that
 pub record PredicateRefused (x : Told) (t t′ : store.Tables) : Type 0 where
   pub left : (t′ ≡ t) ⊎ (t′ ≡ store.tables (withBudget (billed Work 1 (t .header .budget)) (t .header)) (t .rows) (t .seeds))
+  pub same : t′ .seeds ≡ t .seeds
+  pub same-rows : t′ .rows ≡ t .rows
   pub quiet : Quiet 0 0 (t .header) (t′ .header)
   pub whole : x .number ≤ 2 → t′ ≡ t
 
 module _ (constants : List ℕ) (arity : ℕ) (t : store.Tables) (stands : Standing constants (t .header) (t .seeds)) where
   early-predicate : (x : Told) → Ends (λ id u. PredicateTaken constants arity id t u) (λ y u. PredicateRefused y t u) (stopped x t)
-  early-predicate x = stops record { left = inl refl; quiet = quiet-bill (t .header) (same-bill (t .header .budget)); whole = λ _. refl }
+  early-predicate x = stops record { left = inl refl; same = refl; same-rows = refl; quiet = quiet-bill (t .header) (same-bill (t .header .budget)); whole = λ _. refl }
 
   abbrev worked : Store
   worked = withBudget (billed Work 1 (t .header .budget)) (t .header)
@@ -113,7 +115,7 @@ module _ (constants : List ℕ) (arity : ℕ) (t : store.Tables) (stands : Stand
       (charged (work 1)) t
       (charged-ends (work 1) (t .header) (charge-ends Work 1 (t .header .budget)))
       (λ _ s q. rw (q .2, q .1))
-      (λ x s q. rw (q .4, q .3) record { left = inl refl; quiet = quiet-bill (t .header) (same-bill (t .header .budget)); whole = λ _. refl }))
+      (λ x s q. rw (q .4, q .3) record { left = inl refl; same = refl; same-rows = refl; quiet = quiet-bill (t .header) (same-bill (t .header .budget)); whole = λ _. refl }))
       (λ _ u p.
       rw p
       (ends-then _ _ (store.tables worked (t .rows) (t .seeds))
@@ -123,7 +125,7 @@ module _ (constants : List ℕ) (arity : ℕ) (t : store.Tables) (stands : Stand
       (charged (declared arity)) (store.tables worked (t .rows) (t .seeds))
       (charged-ends (declared arity) worked (declared-ends arity (worked .budget)))
       (λ _ s q. rw (q .2, q .1))
-      (λ x s q. rw (q .4, q .3) record { left = inr refl; quiet = quiet-bill (t .header) work-bill; whole = λ l. absurd (omega (arith, q .0)) }))
+      (λ x s q. rw (q .4, q .3) record { left = inr refl; same = refl; same-rows = refl; quiet = quiet-bill (t .header) work-bill; whole = λ l. absurd (omega (arith, q .0)) }))
       (λ _ w q. added (g .0) (g .1) z w q)
       (λ x w q. q)))
       (λ x u q. q))

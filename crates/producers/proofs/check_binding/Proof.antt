@@ -1,97 +1,71 @@
+-- `producers::check_binding` meets its contract.
 use Rattle.limits.specs.declared.Refusal.the-variants.{Missing}
 use Rattle.producers.specs.Producer.{scope, slotIn, checkExpression, checkPair}
 use Rattle.producers.proofs.CodeLaws.{binding-is, inside, outside, before-slot, then-slot, checks-asked}
 use borrow.Author.Needs.{needs}
-use native.Mathlib.Omega.{arith}
 use Rattle.producers.proofs.check_binding.Statement.{statement}
 use Rattle.producers.proofs.check_binding.Tie as tie
-use Rattle.producers.proofs.check_binding.Reads as reads
-use Rattle.producers.proofs.check_binding.Lts as lts
-use Rattle.producers.proofs.check_expression.Reads as check-expression-reads
-use Rattle.producers.proofs.check_pair.Reads as check-pair-reads
-use Rattle.producers.proofs.check_slot.Reads as check-slot-reads
 
--- src/lib.rt:114:29
 enum-known-binding : tie.Need-enum-known-binding
 enum-known-binding c = search needs
 
--- src/lib.rt:116:17
 returns : tie.Need-returns
 returns c = let g = c .before .before .binding .given in binding-is (c .before .before .before .before .before .args .arguments) (scope (c .before .before .before .before .before .args .nodes .now) (c .before .before .before .before .before .args .expressions) (c .before .before .before .before .before .args .slots)) _ (g .1) (outside Missing (slotIn (c .before .before .before .before .before .args .slots) (g .0 .0)) (g .0 .1 .0) (c .before .before .before .before .before .args .arguments) (c .if1 .taken))
 
--- src/lib.rt:118:13
 check-slot-requires : tie.Need-check-slot-requires
 check-slot-requires c κs = search needs
 
--- src/lib.rt:120:27
 enum-known-binding-2 : tie.Need-enum-known-binding-2
 enum-known-binding-2 c = search needs
 
--- src/lib.rt:121:19
 check-expression-requires : tie.Need-check-expression-requires
 check-expression-requires c κs = search needs
 
--- src/lib.rt:122:34
 enum-known-refusal : tie.Need-enum-known-refusal
 enum-known-refusal c = search needs
 
--- src/lib.rt:123:33
 enum-known-spent : tie.Need-enum-known-spent
 enum-known-spent c = search needs
 
--- src/lib.rt:123:43
 check-slot-requires-2 : tie.Need-check-slot-requires-2
 check-slot-requires-2 c κs = search needs
 
--- src/lib.rt:126:26
 enum-known-binding-3 : tie.Need-enum-known-binding-3
 enum-known-binding-3 c = search needs
 
--- src/lib.rt:127:19
 check-pair-requires : tie.Need-check-pair-requires
 check-pair-requires c κs = search needs
 
--- src/lib.rt:128:34
 enum-known-refusal-2 : tie.Need-enum-known-refusal-2
 enum-known-refusal-2 c = search needs
 
--- src/lib.rt:129:33
 enum-known-spent-2 : tie.Need-enum-known-spent-2
 enum-known-spent-2 c = search needs
 
--- src/lib.rt:129:43
 check-slot-requires-3 : tie.Need-check-slot-requires-3
 check-slot-requires-3 c κs = search needs
 
--- src/lib.rt:132:30
 enum-known-binding-4 : tie.Need-enum-known-binding-4
 enum-known-binding-4 c = search needs
 
--- src/lib.rt:132:53
 check-slot-requires-4 : tie.Need-check-slot-requires-4
 check-slot-requires-4 c κs = search needs
 
--- src/lib.rt:102:1
 returns-2 : tie.Need-returns-2
 returns-2 c = let g = c .before .before .before .binding .given in binding-is (c .before .before .before .before .before .before .args .arguments) (scope (c .before .before .before .before .before .before .args .nodes .now) (c .before .before .before .before .before .before .args .expressions) (c .before .before .before .before .before .before .args .slots)) _ (g .1) (inside Missing (slotIn (c .before .before .before .before .before .before .args .slots) (g .0 .0)) (g .0 .1 .0) (c .before .before .before .before .before .before .args .arguments) (c .before .if1 .left) (checks-asked _ (c .check-slot .ensures)))
 
--- src/lib.rt:102:1
 returns-3 : tie.Need-returns-3
 returns-3 c = let g = c .before .before .before .before .before .binding2 .given in let s = scope (c .before .before .before .before .before .before .before .before .args .nodes .now) (c .before .before .before .before .before .before .before .before .args .expressions) (c .before .before .before .before .before .before .before .before .args .slots) in binding-is (c .before .before .before .before .before .before .before .before .args .arguments) s _ (g .1) (before-slot (checkExpression s (g .0 .1 .0)) (c .before .before .before .before .before .before .before .before .args .slots) (g .0 .0) (c .before .before .before .check-expression .ensures) (c .before .refusal .given .1))
 
--- src/lib.rt:102:1
 returns-4 : tie.Need-returns-4
 returns-4 c = let g = c .before .before .before .before .before .before .binding2 .given in let s = scope (c .before .before .before .before .before .before .before .before .before .args .nodes .now) (c .before .before .before .before .before .before .before .before .before .args .expressions) (c .before .before .before .before .before .before .before .before .before .args .slots) in binding-is (c .before .before .before .before .before .before .before .before .before .args .arguments) s _ (g .1) (then-slot (checkExpression s (g .0 .1 .0)) (c .before .before .before .before .before .before .before .before .before .args .slots) (g .0 .0) (c .before .before .before .before .check-expression .ensures) (c .before .before .spent .given .1) (c .check-slot2 .ensures))
 
--- src/lib.rt:102:1
 returns-5 : tie.Need-returns-5
 returns-5 c = let g = c .before .before .before .before .before .binding3 .given in let s = scope (c .before .before .before .before .before .before .before .before .args .nodes .now) (c .before .before .before .before .before .before .before .before .args .expressions) (c .before .before .before .before .before .before .before .before .args .slots) in binding-is (c .before .before .before .before .before .before .before .before .args .arguments) s _ (g .1) (before-slot (checkPair s (g .0 .1 .0) (g .0 .1 .1 .0)) (c .before .before .before .before .before .before .before .before .args .slots) (g .0 .0) (c .before .before .before .check-pair .ensures) (c .before .refusal2 .given .1))
 
--- src/lib.rt:102:1
 returns-6 : tie.Need-returns-6
 returns-6 c = let g = c .before .before .before .before .before .before .binding3 .given in let s = scope (c .before .before .before .before .before .before .before .before .before .args .nodes .now) (c .before .before .before .before .before .before .before .before .before .args .expressions) (c .before .before .before .before .before .before .before .before .before .args .slots) in binding-is (c .before .before .before .before .before .before .before .before .before .args .arguments) s _ (g .1) (then-slot (checkPair s (g .0 .1 .0) (g .0 .1 .1 .0)) (c .before .before .before .before .before .before .before .before .before .args .slots) (g .0 .0) (c .before .before .before .before .check-pair .ensures) (c .before .before .spent2 .given .1) (c .check-slot3 .ensures))
 
--- src/lib.rt:102:1
 returns-7 : tie.Need-returns-7
 returns-7 c = let g = c .before .before .binding4 .given in binding-is (c .before .before .before .before .before .args .arguments) (scope (c .before .before .before .before .before .args .nodes .now) (c .before .before .before .before .before .args .expressions) (c .before .before .before .before .before .args .slots)) _ (g .1) (checks-asked _ (c .check-slot4 .ensures))
 

@@ -1,39 +1,29 @@
+-- `producers::check_guard` meets its contract.
 use Rattle.limits.specs.declared.Refusal.the-variants.{MissingSlot}
 use Rattle.producers.specs.Producer.{scope, checkPair}
 use Rattle.producers.proofs.CodeLaws.{guard-is, inside, outside}
 use borrow.Author.Needs.{needs}
-use native.Mathlib.Omega.{arith}
 use Rattle.producers.proofs.check_guard.Statement.{statement}
 use Rattle.producers.proofs.check_guard.Tie as tie
-use Rattle.producers.proofs.check_guard.Reads as reads
-use Rattle.producers.proofs.check_guard.Lts as lts
-use Rattle.producers.proofs.check_pair.Reads as check-pair-reads
 
--- src/lib.rt:148:13
 enum-known-guard : tie.Need-enum-known-guard
 enum-known-guard c = search needs
 
--- src/lib.rt:151:14
 check-pair-requires : tie.Need-check-pair-requires
 check-pair-requires c κs = search needs
 
--- src/lib.rt:152:29
 enum-known-guard-2 : tie.Need-enum-known-guard-2
 enum-known-guard-2 c = search needs
 
--- src/lib.rt:154:17
 returns : tie.Need-returns
 returns c = let g = c .before .before .guard2 .given in guard-is (scope (c .before .before .before .before .before .args .nodes .now) (c .before .before .before .before .before .args .expressions) (c .before .before .before .before .before .args .slots)) _ (g .1) (outside MissingSlot (checkPair (scope (c .before .before .before .before .before .args .nodes .now) (c .before .before .before .before .before .args .expressions) (c .before .before .before .before .before .args .slots)) (g .0 .1 .0) (g .0 .1 .1 .0)) (g .0 .0) (c .before .before .before .before .before .args .slots) (c .if1 .taken))
 
--- src/lib.rt:156:13
 check-pair-requires-2 : tie.Need-check-pair-requires-2
 check-pair-requires-2 c κs = search needs
 
--- src/lib.rt:136:1
 returns-2 : tie.Need-returns-2
 returns-2 c = guard-is (scope (c .before .before .before .before .before .args .nodes .now) (c .before .before .before .before .before .args .expressions) (c .before .before .before .before .before .args .slots)) _ (c .before .before .guard .given .1) (c .check-pair .ensures)
 
--- src/lib.rt:136:1
 returns-3 : tie.Need-returns-3
 returns-3 c = let g = c .before .before .before .guard2 .given in guard-is (scope (c .before .before .before .before .before .before .args .nodes .now) (c .before .before .before .before .before .before .args .expressions) (c .before .before .before .before .before .before .args .slots)) _ (g .1) (inside MissingSlot (checkPair (scope (c .before .before .before .before .before .before .args .nodes .now) (c .before .before .before .before .before .before .args .expressions) (c .before .before .before .before .before .before .args .slots)) (g .0 .1 .0) (g .0 .1 .1 .0)) (g .0 .0) (c .before .before .before .before .before .before .args .slots) (c .before .if1 .left) (c .check-pair2 .ensures))
 

@@ -1,3 +1,4 @@
+-- `producers::check_guards` meets its contract.
 use Rattle.producers.proofs.CodeLaws.{Checking, checking-none, checking-stopped, checking-refused, checking-more, checking-all}
 use Rattle.producers.specs.Producer.{scope, each, checkGuard}
 use Rattle.rules.specs.declared.Relation.the-variants.{Lt}
@@ -9,10 +10,6 @@ use borrow.Author.Needs.{needs}
 use native.Mathlib.Omega.{arith}
 use Rattle.producers.proofs.check_guards.Statement.{statement}
 use Rattle.producers.proofs.check_guards.Tie as tie
-use Rattle.producers.proofs.check_guards.Reads as reads
-use Rattle.producers.proofs.check_guards.Lts as lts
-use Rattle.limits.proofs.charge.Reads as charge-reads
-use Rattle.producers.proofs.check_guard.Reads as check-guard-reads
 
 abbrev Inv-loop : tie.InvT-loop
 Inv-loop nodes expressions slots count work max-work guards i₀ spent₀ i spent =
@@ -31,7 +28,7 @@ enum-known-stop : tie.Need-enum-known-stop Inv-loop μ-loop
 enum-known-stop c = search needs
 
 returns : tie.Need-returns Inv-loop μ-loop
-returns c = let n : length (c .before .before .before .before .before .before .before .args .t3) ≡ 32 = search needs in checking-stopped (λ g. checkGuard (scope (c .before .before .before .before .before .before .before .args .nodes .now) (c .before .before .before .before .before .before .before .args .expressions) (c .before .before .before .before .before .before .before .args .slots)) (g .guard)) (record { guard = Compare 0 Lt 0 }) (c .before .before .before .before .before .before .before .args .t3) (c .before .before .before .before .before .before .before .args .count) (omega (arith, n, c .before .before .before .before .before .before .before .pre)) (c .before .before .before .before .before .loop .inv .1) (c .before .before .before .before .loop-test .taken) (c .before .before .before .charge .ensures) (c .before .stop .given .1)
+returns c = let n : length (c .before .before .before .before .before .before .before .args .t4) ≡ 32 = search needs in checking-stopped (λ g. checkGuard (scope (c .before .before .before .before .before .before .before .args .nodes .now) (c .before .before .before .before .before .before .before .args .expressions) (c .before .before .before .before .before .before .before .args .slots)) (g .guard)) (record { guard = Compare 0 Lt 0 }) (c .before .before .before .before .before .before .before .args .t4) (c .before .before .before .before .before .before .before .args .count) (omega (arith, n, c .before .before .before .before .before .before .before .pre)) (c .before .before .before .before .before .loop .inv .1) (c .before .before .before .before .loop-test .taken) (c .before .before .before .charge .ensures) (c .before .stop .given .1)
 
 enum-known-now : tie.Need-enum-known-now Inv-loop μ-loop
 enum-known-now c = search needs
@@ -49,7 +46,7 @@ enum-known-refusal : tie.Need-enum-known-refusal Inv-loop μ-loop
 enum-known-refusal c = search needs
 
 returns-2 : tie.Need-returns-2 Inv-loop μ-loop
-returns-2 c = let n : length (c .before .before .before .before .before .before .before .before .before .before .before .before .args .t3) ≡ 32 = search needs in checking-refused (λ g. checkGuard (scope (c .before .before .before .before .before .before .before .before .before .before .before .before .args .nodes .now) (c .before .before .before .before .before .before .before .before .before .before .before .before .args .expressions) (c .before .before .before .before .before .before .before .before .before .before .before .before .args .slots)) (g .guard)) (record { guard = Compare 0 Lt 0 }) (c .before .before .before .before .before .before .before .before .before .before .before .before .args .t3) (c .before .before .before .before .before .before .before .before .before .before .before .before .args .count) (omega (arith, n, c .before .before .before .before .before .before .before .before .before .before .before .before .pre)) (c .before .before .before .before .before .before .before .before .before .before .loop .inv .1) (c .before .before .before .before .before .before .before .before .before .loop-test .taken) (c .before .before .before .before .before .before .before .before .charge .ensures) (c .before .before .before .before .before .before .now .given .1) (c .before .before .before .check-guard .ensures) (c .before .refusal .given .1)
+returns-2 c = let n : length (c .before .before .before .before .before .before .before .before .before .before .before .before .args .t4) ≡ 32 = search needs in checking-refused (λ g. checkGuard (scope (c .before .before .before .before .before .before .before .before .before .before .before .before .args .nodes .now) (c .before .before .before .before .before .before .before .before .before .before .before .before .args .expressions) (c .before .before .before .before .before .before .before .before .before .before .before .before .args .slots)) (g .guard)) (record { guard = Compare 0 Lt 0 }) (c .before .before .before .before .before .before .before .before .before .before .before .before .args .t4) (c .before .before .before .before .before .before .before .before .before .before .before .before .args .count) (omega (arith, n, c .before .before .before .before .before .before .before .before .before .before .before .before .pre)) (c .before .before .before .before .before .before .before .before .before .before .loop .inv .1) (c .before .before .before .before .before .before .before .before .before .loop-test .taken) (c .before .before .before .before .before .before .before .before .charge .ensures) (c .before .before .before .before .before .before .now .given .1) (c .before .before .before .check-guard .ensures) (c .before .refusal .given .1)
 
 enum-known-now-2 : tie.Need-enum-known-now-2 Inv-loop μ-loop
 enum-known-now-2 c = search needs
@@ -61,10 +58,10 @@ loop-less : tie.Need-loop-less Inv-loop μ-loop
 loop-less c = search needs
 
 loop-again : tie.Need-loop-again Inv-loop μ-loop
-loop-again c = let n : length (c .before .before .before .before .before .before .before .before .before .before .before .before .args .t3) ≡ 32 = search needs in (omega arith, checking-more (λ g. checkGuard (scope (c .before .before .before .before .before .before .before .before .before .before .before .before .args .nodes .now) (c .before .before .before .before .before .before .before .before .before .before .before .before .args .expressions) (c .before .before .before .before .before .before .before .before .before .before .before .before .args .slots)) (g .guard)) (record { guard = Compare 0 Lt 0 }) (c .before .before .before .before .before .before .before .before .before .before .before .before .args .t3) (c .before .before .before .before .before .before .before .before .before .before .before .before .args .count) (omega (arith, n, c .before .before .before .before .before .before .before .before .before .before .before .before .pre)) (c .before .before .before .before .before .before .before .before .before .before .loop .inv .1) (c .before .before .before .before .before .before .before .before .before .loop-test .taken) (c .before .before .before .before .before .before .before .before .charge .ensures) (c .before .before .before .before .before .before .now .given .1) (c .before .before .before .check-guard .ensures) (c .before .now2 .given .1))
+loop-again c = let n : length (c .before .before .before .before .before .before .before .before .before .before .before .before .args .t4) ≡ 32 = search needs in (omega arith, checking-more (λ g. checkGuard (scope (c .before .before .before .before .before .before .before .before .before .before .before .before .args .nodes .now) (c .before .before .before .before .before .before .before .before .before .before .before .before .args .expressions) (c .before .before .before .before .before .before .before .before .before .before .before .before .args .slots)) (g .guard)) (record { guard = Compare 0 Lt 0 }) (c .before .before .before .before .before .before .before .before .before .before .before .before .args .t4) (c .before .before .before .before .before .before .before .before .before .before .before .before .args .count) (omega (arith, n, c .before .before .before .before .before .before .before .before .before .before .before .before .pre)) (c .before .before .before .before .before .before .before .before .before .before .loop .inv .1) (c .before .before .before .before .before .before .before .before .before .loop-test .taken) (c .before .before .before .before .before .before .before .before .charge .ensures) (c .before .before .before .before .before .before .now .given .1) (c .before .before .before .check-guard .ensures) (c .before .now2 .given .1))
 
 returns-3 : tie.Need-returns-3 Inv-loop μ-loop
-returns-3 c = checking-all (λ g. checkGuard (scope (c .before .before .before .args .nodes .now) (c .before .before .before .args .expressions) (c .before .before .before .args .slots)) (g .guard)) (c .before .before .before .args .t3) (c .before .loop .inv .1) (c .loop-test .left)
+returns-3 c = checking-all (λ g. checkGuard (scope (c .before .before .before .args .nodes .now) (c .before .before .before .args .expressions) (c .before .before .before .args .slots)) (g .guard)) (c .before .before .before .args .t4) (c .before .loop .inv .1) (c .loop-test .left)
 
 pub check-guards-spec : {M : Type 1} → statement M
 check-guards-spec =

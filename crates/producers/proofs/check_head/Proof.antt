@@ -1,44 +1,31 @@
+-- `producers::check_head` meets its contract.
 use Rattle.producers.specs.Producer.{scope, checkValue}
 use Rattle.producers.proofs.CodeLaws.{checked-on, checked-stop, checking-kept, head-on, head-stop}
 use borrow.Author.Needs.{needs}
-use native.Mathlib.Omega.{arith}
 use Rattle.producers.proofs.check_head.Statement.{statement}
 use Rattle.producers.proofs.check_head.Tie as tie
-use Rattle.producers.proofs.check_head.Reads as reads
-use Rattle.producers.proofs.check_head.Lts as lts
-use Rattle.producers.proofs.check_value.Reads as check-value-reads
-use Rattle.producers.proofs.with_checked.Reads as with-checked-reads
-use Rattle.provenance.proofs.provenance.Reads as provenance-reads
 
--- src/lib.rt:334:9
 check-value-requires : tie.Need-check-value-requires
 check-value-requires c κs = search needs
 
--- src/lib.rt:342:11
 with-checked-requires : tie.Need-with-checked-requires
 with-checked-requires c κs = search needs
 
--- src/lib.rt:343:23
 enum-known-refusal : tie.Need-enum-known-refusal
 enum-known-refusal c = search needs
 
--- src/lib.rt:344:18
 enum-known-passed : tie.Need-enum-known-passed
 enum-known-passed c = search needs
 
--- src/lib.rt:344:29
 provenance-requires : tie.Need-provenance-requires
 provenance-requires c κs = let k = checking-kept (checkValue (scope (c .before .before .before .before .before .before .before .before .before .before .before .args .nodes .now) (c .before .before .before .before .before .before .before .before .before .before .before .args .expressions) (c .before .before .before .before .before .before .before .before .before .before .before .args .slots)) (c .before .before .before .before .before .before .before .before .before .before .before .args .head .value)) (c .before .before .before .before .before .before .before .before .before .before .before .args .store) (checked-on _ (c .before .before .before .before .before .before .before .before .before .before .before .args .store) (c .before .before .before .before .before .check-value .ensures) (c .before .before .before .before .with-checked .ensures) (c .before .before .passed .given .1)) in rw (k .0, k .1) (c .before .before .before .before .before .before .before .before .before .before .before .pre)
 
--- src/lib.rt:320:1
 returns : tie.Need-returns
 returns c = head-stop (scope (c .before .before .before .before .before .before .before .before .before .before .args .nodes .now) (c .before .before .before .before .before .before .before .before .before .before .args .expressions) (c .before .before .before .before .before .before .before .before .before .before .args .slots)) (c .before .before .before .before .before .before .before .before .before .before .args .head) (c .before .before .before .before .before .before .before .before .before .before .args .store) (c .before .before .before .before .before .before .before .before .before .before .args .records .now) (checked-stop _ (c .before .before .before .before .before .before .before .before .before .before .args .store) (c .before .before .before .before .check-value .ensures) (c .before .before .before .with-checked .ensures) (c .before .refusal .given .1))
 
--- src/lib.rt:320:1
 same-length : tie.Need-same-length
 same-length c = search needs
 
--- src/lib.rt:320:1
 returns-2 : tie.Need-returns-2
 returns-2 c = head-on (scope (c .before .before .before .before .before .before .before .before .before .before .before .before .before .before .args .nodes .now) (c .before .before .before .before .before .before .before .before .before .before .before .before .before .before .args .expressions) (c .before .before .before .before .before .before .before .before .before .before .before .before .before .before .args .slots)) (c .before .before .before .before .before .before .before .before .before .before .before .before .before .before .args .head) (c .before .before .before .before .before .before .before .before .before .before .before .before .before .before .args .store) (c .before .before .before .before .before .before .before .before .before .before .before .before .before .before .args .records .now) (checked-on _ (c .before .before .before .before .before .before .before .before .before .before .before .before .before .before .args .store) (c .before .before .before .before .before .before .before .before .check-value .ensures) (c .before .before .before .before .before .before .before .with-checked .ensures) (c .before .before .before .before .before .passed .given .1)) (c .before .before .provenance .ensures)
 

@@ -1,16 +1,11 @@
+-- `producers::check_slot` meets its contract.
 use Rattle.producers.proofs.CodeLaws.{slot-missing, slot-there}
-use borrow.Author.Needs.{needs}
-use native.Mathlib.Omega.{arith}
 use Rattle.producers.proofs.check_slot.Statement.{statement}
 use Rattle.producers.proofs.check_slot.Tie as tie
-use Rattle.producers.proofs.check_slot.Reads as reads
-use Rattle.producers.proofs.check_slot.Lts as lts
 
--- src/lib.rt:37:9
 returns : tie.Need-returns
 returns c = slot-missing (c .before .args .slots) (c .before .args .slot) (c .before .args .work) (c .if1 .taken)
 
--- src/lib.rt:33:1
 returns-2 : tie.Need-returns-2
 returns-2 c = slot-there (c .before .args .slots) (c .before .args .slot) (c .before .args .work) (c .if1 .left)
 

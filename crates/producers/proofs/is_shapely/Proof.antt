@@ -1,29 +1,22 @@
-use borrow.Author.Needs.{needs}
-use native.Mathlib.Omega.{arith}
+-- `producers::is_shapely` meets its contract.
+use Rattle.producers.proofs.CodeLaws.{shapely-slots, shapely-bindings, shapely-guards, shapely-heads, shapely-is}
 use Rattle.producers.proofs.is_shapely.Statement.{statement}
 use Rattle.producers.proofs.is_shapely.Tie as tie
-use Rattle.producers.proofs.is_shapely.Reads as reads
-use Rattle.producers.proofs.is_shapely.Lts as lts
 
--- src/lib.rt:364:9
 returns : tie.Need-returns
-returns c = ?
+returns c = shapely-slots (c .before .before .before .args .rule) (c .if1 .taken)
 
--- src/lib.rt:367:9
 returns-2 : tie.Need-returns-2
-returns-2 c = ?
+returns-2 c = shapely-bindings (c .before .before .before .before .before .args .rule) (c .before .before .if1 .left) (c .if2 .taken)
 
--- src/lib.rt:370:9
 returns-3 : tie.Need-returns-3
-returns-3 c = ?
+returns-3 c = shapely-guards (c .before .before .before .before .before .before .before .args .rule) (c .before .before .before .before .if1 .left) (c .before .before .if2 .left) (c .if3 .taken)
 
--- src/lib.rt:373:9
 returns-4 : tie.Need-returns-4
-returns-4 c = ?
+returns-4 c = shapely-heads (c .before .before .before .before .before .before .before .before .before .args .rule) (c .before .before .before .before .before .before .if1 .left) (c .before .before .before .before .if2 .left) (c .before .before .if3 .left) (c .if4 .taken)
 
--- src/lib.rt:359:1
 returns-5 : tie.Need-returns-5
-returns-5 c = ?
+returns-5 c = shapely-is (c .before .before .before .before .before .before .before .before .before .before .args .rule) (c .before .before .before .before .before .before .before .if1 .left) (c .before .before .before .before .before .if2 .left) (c .before .before .before .if3 .left) (c .before .if4 .left)
 
 pub is-shapely-spec : {M : Type 1} → statement M
 is-shapely-spec = tie.close (tie.spec returns returns-2 returns-3 returns-4 returns-5)

@@ -1,33 +1,26 @@
+-- `producers::sized` meets its contract.
+use Rattle.producers.proofs.CodeLaws.{sized-nodes, sized-rules, sized-is}
 use borrow.Author.Needs.{needs}
-use native.Mathlib.Omega.{arith}
 use Rattle.producers.proofs.sized.Statement.{statement}
 use Rattle.producers.proofs.sized.Tie as tie
-use Rattle.producers.proofs.sized.Reads as reads
-use Rattle.producers.proofs.sized.Lts as lts
 
--- src/lib.rt:382:17
 mul-if1 : tie.Need-mul-if1
 mul-if1 c = search needs
 
--- src/lib.rt:383:9
 returns : tie.Need-returns
-returns c = ?
+returns c = sized-nodes (c .before .args .nodes) (c .before .args .rules) (c .before .args .records) (c .if1 .taken)
 
--- src/lib.rt:385:17
 mul-if2 : tie.Need-mul-if2
 mul-if2 c = search needs
 
--- src/lib.rt:386:9
 returns-2 : tie.Need-returns-2
-returns-2 c = ?
+returns-2 c = sized-rules (c .before .before .args .nodes) (c .before .before .args .rules) (c .before .before .args .records) (c .before .if1 .left) (c .if2 .taken)
 
--- src/lib.rt:388:16
 mul-result : tie.Need-mul-result
 mul-result c = search needs
 
--- src/lib.rt:379:1
 returns-3 : tie.Need-returns-3
-returns-3 c = ?
+returns-3 c = sized-is (c .before .before .args .nodes) (c .before .before .args .rules) (c .before .before .args .records) (c .before .if1 .left) (c .if2 .left)
 
 pub sized-spec : {M : Type 1} → statement M
 sized-spec = tie.close (tie.spec mul-if1 returns mul-if2 returns-2 mul-result returns-3)
