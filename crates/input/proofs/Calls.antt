@@ -1,5 +1,5 @@
 -- Each call keeps what holds of a store, whichever way it ends.
-use Prim.Native.Nat.{ℕ, _+_, _≤_}
+use Prim.Native.Nat.{ℕ, _+_, _^_, _≤_, _<_}
 use native.Mathlib.Omega.{arith}
 use mathlib.Core.Path.{_≡_, refl, ap, _∙_}
 use mathlib.Core.Logic.{_⊎_, inl, inr}
@@ -11,6 +11,7 @@ use Rattle.limits.specs.Metered.{Run}
 use Rattle.limits.proofs.Ends.{Ends, completes, stops, ends-pure, ends-test, ends-as, ends-both}
 use Rattle.keys.specs.Key.{Key, number, name}
 use Rattle.nodes.specs.declared.Expression.{Expression}
+use Rattle.rules.proofs.RuleLaws.{SmallContext}
 use Rattle.store.specs.declared.Context.{Context}
 use Rattle.store.specs.declared.Context.the-variants.{Some}
 use Rattle.store.specs.declared.Store.{Store}
@@ -27,10 +28,11 @@ use Rattle.expressions.specs.Expression.{expressionCall}
 use Rattle.expressions.specs.Expression as expressions
 use Rattle.expressions.proofs.Nested.{nested-more-constants, expression-ends}
 use Rattle.expressions.proofs.Nested as nested
+use Rattle.seeds.proofs.Beside.{standing-on}
 use Rattle.input.specs.Input.{Tables, Call, done, id, TypedKey, withHeader, forConstant, fromConstant, forExpression, fromExpression, call}
 use Rattle.input.specs.Input as input
 use Rattle.input.proofs.Reached.{Reached}
-use Rattle.input.proofs.Left.{on-ends, Steady, steady-none, steady-charge, Leaves, Refused, early, Beyond, beyond-none, held-reached, left-reached, given-more, given-few, numbers-given, seeded-given}
+use Rattle.input.proofs.Left.{on-ends, Steady, steady-none, steady-charge, Leaves, Refused, early, Beyond, beyond-none, held-reached, left-reached, given-more, given-few, numbers-given, rules-more}
 
 -- ---- what a call leaves
 
@@ -53,16 +55,26 @@ module _ {t : Tables} (r : Reached t) {s : Store} (c : Charging (t .header) s) w
 
 -- ---- `context`, `work` and `argument`
 
-context-reached : {t : Tables} → Reached t → (c : Context) → Reached (withHeader (withContext c (t .header)) t)
-context-reached {t} r c =
+context-reached : {t : Tables} → Reached t → (c : Context) → SmallContext c → Reached (withHeader (withContext c (t .header)) t)
+context-reached {t} r c h =
     held-reached r (record { names = refl; constants = refl; order = refl; nodes = refl; count = refl; keys = refl; expressions = refl; limits = refl }) (beyond-none r refl refl refl refl)
-    (r .sized .predicates) (r .sized .seeds) (r .counted .predicates) (r .counted .positions) (record { seeded = r .standing .seeded; live = r .standing .live; lost = r .standing .lost })
+    record {
+      predicates = r .sized .predicates;
+      seeds = r .sized .seeds;
+      cells = r .sized .rules;
+      few-predicates = r .counted .predicates;
+      few-positions = r .counted .positions;
+      few-rules = r .counted .rules;
+      context = h;
+      standing = record { seeded = r .standing .seeded; live = r .standing .live; lost = r .standing .lost };
+      rules = r .rules;
+    }
 
-pub context-keeps : (c : ℕ) (t : Tables) → Reached t → Keeps (input.context c) t
+pub context-keeps : (c : ℕ) (t : Tables) → c < 2 ^ 32 → Reached t → Keeps (input.context c) t
 unfolding call contextCall
-context-keeps c t r =
+context-keeps c t h r =
     on-ends (λ u. u .header) withHeader (λ _. done) {P = λ _ s. Reached (withHeader s t)} {Q = λ e s. Refused t e (withHeader s t)} (contextCall c) t
-    (ends-test (open? (t .header)) (λ _. completes (context-reached r (Some c))) (λ _. stops (refused-none r _)))
+    (ends-test (open? (t .header)) (λ _. completes (context-reached r (Some c) h)) (λ _. stops (refused-none r _)))
     (λ _ s h. h)
     (λ e s h. h)
 
@@ -133,6 +145,7 @@ module _ {t : Tables} (r : Reached t) (k : Key) where
           nodes = r .sized .nodes;
           seeds = r .sized .seeds;
           records = r .sized .records;
+          rules = r .sized .rules;
         };
         counted = record {
           predicates = rw (h .predicates) (r .counted .predicates);
@@ -142,17 +155,16 @@ module _ {t : Tables} (r : Reached t) (k : Key) where
           expressions = rw (h .expressions) (r .counted .expressions);
           thresholds = omega (arith, n .1 .1, a .thresholds .most);
           provenance = rw (h .provenance) (r .counted .provenance);
+          rules = rw (h .rules) (r .counted .rules);
         };
         narrow = rw (h .spent .limits) (r .narrow);
+        context = rw (h .context) (r .context);
         keyed = g .keyed;
         rises = a .thresholds .rises;
         numbers = numbers-given g typed (a .thresholds) (a .surrounds) (r .numbers);
         nested = rw (h .expressions) (nested-more-constants (given-more g) (r .nested));
-        standing = record {
-          seeded = rw (h .spent .limits, h .positions) (seeded-given g _ _ (t .seeds) (r .standing .seeded));
-          live = rw (h .spent .entries, h .positions) (r .standing .live);
-          lost = rw (h .spent .widened, h .positions) (r .standing .lost);
-        };
+        standing = standing-on (given-more g) (g .kinds) (h .positions) (h .spent .limits) (h .spent .entries) (h .spent .widened) (r .standing);
+        rules = rw (h .rules, h .positions, h .expressions) (r .rules);
       }
 
   constant-declined : {e : Told} {u : constants.Tables} → Declined k (forConstant t) e u → (u ≡ forConstant t) ⊎ (spacious (t .header .counts) ≡ true) → Refused t e (fromConstant u t)
@@ -208,7 +220,6 @@ module _ {t : Tables} (r : Reached t) (e : Expression) where
   expression-accepted : {i : ℕ} {u : expressions.Tables} → nested.Accepted e (forExpression t) i u → Reached (fromExpression u t)
   expression-accepted {i} {u} a =
       let h = a .is in
-      let same : u .header .counts .constants ≡ t .header .counts .constants = ap (λ (s : Store). s .counts .constants) h in
       record {
         sized = record {
           predicates = r .sized .predicates;
@@ -219,6 +230,7 @@ module _ {t : Tables} (r : Reached t) (e : Expression) where
           nodes = a .size ∙ r .sized .nodes;
           seeds = r .sized .seeds;
           records = r .sized .records;
+          rules = r .sized .rules;
         };
         counted = record {
           predicates = rw h (r .counted .predicates);
@@ -228,8 +240,10 @@ module _ {t : Tables} (r : Reached t) (e : Expression) where
           expressions = a .fits;
           thresholds = rw h (r .counted .thresholds);
           provenance = rw h (r .counted .provenance);
+          rules = rw h (r .counted .rules);
         };
         narrow = rw (h, a .spent .limits) (r .narrow);
+        context = rw h (r .context);
         keyed = rw h (r .keyed);
         rises = rw h (r .rises);
         numbers = rw h (r .numbers);
@@ -239,6 +253,7 @@ module _ {t : Tables} (r : Reached t) (e : Expression) where
           live = rw (a .spent .entries) (r .standing .live);
           lost = rw (a .spent .widened) (r .standing .lost);
         };
+        rules = rw (ap (λ (s : Store). s .counts .rules) h, ap (λ (s : Store). s .counts .positions) h) (rules-more (omega arith) (a .grows) (a .expressions) (r .rules));
       }
 
   expression-refused : {x : Told} {u : expressions.Tables} → nested.Refused (forExpression t) x u → Refused t x (fromExpression u t)

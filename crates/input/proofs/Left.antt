@@ -20,15 +20,21 @@ use Rattle.lattice.specs.Constants.{constantOf, constantAt}
 use Rattle.cells.specs.Cells.{ofCell}
 use Rattle.thresholds.proofs.Sorted.{Rises}
 use Rattle.keys.specs.Key.{Key, number, kindAt, payloadAt, keyAt}
+use Rattle.nodes.specs.Node.{expressionAt}
 use Rattle.rows.specs.Row.{row}
+use Rattle.rules.specs.declared.Rule.{Rule}
+use Rattle.rules.specs.Rule as rules
+use Rattle.rules.proofs.RuleLaws.{Short, Row, SmallContext}
+use Rattle.store.specs.declared.Context.{Context}
 use Rattle.store.specs.declared.Store.{Store}
 use Rattle.store.proofs.Frame.{Spent, spent-none, Charging}
 use Rattle.constants.proofs.Kept.{Stands, Surrounds, Marked, Numbered, again, newly, Given}
 use Rattle.constants.proofs.Steps.{on-bind}
-use Rattle.seeds.proofs.Seeded.{Seeded, seeded-constants}
 use Rattle.seeds.proofs.Beside.{Standing}
+use Rattle.producers.specs.Producer.{scope}
+use Rattle.producers.proofs.Scoped.{RuleIn, rule-in-more}
 use Rattle.input.specs.Input.{Tables, Reply, TypedKey, on}
-use Rattle.input.proofs.Reached.{Numbers, Reached}
+use Rattle.input.proofs.Reached.{Numbers, Ruled, Rules, Reached}
 
 -- ---- a call on a part of the store
 
@@ -139,35 +145,50 @@ surrounds-more n n′ a b f v h = (f _ (h .0), (λ k. f _ (h .1 k)), (λ k. f _ 
 pub numbers-marks : {n c c′ : ℕ} {cells : List ℕ} {a b : List ℤ} → ((z : ℤ) → Stands c a z → Stands c′ b z) → Numbers n cells c a → Numbers n cells c′ b
 numbers-marks {c} {c′} {a} {b} f h = record { at = λ id l e. let p = h .at id l e in (p .0, surrounds-more c c′ a b f _ (p .1)) }
 
--- a call that changes no constants and no expressions, with what holds of predicates and seeds
-pub held-reached : {t u : Tables} → Reached t → Held t u → Beyond t u → length (u .predicates) ≡ 128 → length (u .seeds) ≡ row * 256 → u .header .counts .predicates ≤ 64 →
-    u .header .counts .positions ≤ 256 → Standing (u .constants) (u .header) (u .seeds) → Reached u
-held-reached {t} {u} r h b p s few most st = record {
+-- what holds of the rest: predicates, seeds and rules
+pub record Rest (u : Tables) : Type 0 where
+  pub predicates : length (u .predicates) ≡ 128
+  pub seeds : length (u .seeds) ≡ row * 256
+  pub cells : length (u .rules) ≡ rules.row * 256
+  pub few-predicates : u .header .counts .predicates ≤ 64
+  pub few-positions : u .header .counts .positions ≤ 256
+  pub few-rules : u .header .counts .rules ≤ 256
+  pub context : SmallContext (u .header .context)
+  pub standing : Standing (u .constants) (u .header) (u .seeds)
+  pub rules : Rules (u .header .counts .rules) (u .header .counts .positions) (u .header .counts .expressions) (u .nodes) (u .rules)
+
+-- a call that changes no constants and no expressions
+pub held-reached : {t u : Tables} → Reached t → Held t u → Beyond t u → Rest u → Reached u
+held-reached {t} {u} r h b x = record {
   sized = record {
-    predicates = p;
+    predicates = x .predicates;
     names = rw (h .names) (r .sized .names);
     constants = rw (h .constants) (r .sized .constants);
     order = rw (h .order) (r .sized .order);
     thresholds = b .marks ∙ r .sized .thresholds;
     nodes = rw (h .nodes) (r .sized .nodes);
-    seeds = s;
+    seeds = x .seeds;
     records = b .records ∙ r .sized .records;
+    rules = x .cells;
   };
   counted = record {
-    predicates = few;
-    positions = most;
+    predicates = x .few-predicates;
+    positions = x .few-positions;
     constants = rw (h .count) (r .counted .constants);
     keys = rw (h .keys) (r .counted .keys);
     expressions = rw (h .expressions) (r .counted .expressions);
     thresholds = b .few-marks;
     provenance = b .few-records;
+    rules = x .few-rules;
   };
   narrow = rw (h .limits) (r .narrow);
+  context = x .context;
   keyed = rw (h .count, h .keys, h .names, h .constants, h .order) (r .keyed);
   rises = b .rises;
   numbers = rw (h .count, h .constants) (numbers-marks (b .old) (r .numbers));
   nested = rw (h .count, h .expressions, h .nodes) (r .nested);
-  standing = st;
+  standing = x .standing;
+  rules = x .rules;
 }
 
 held-left : {t u : Tables} → Leaves t u → Held t u
@@ -193,8 +214,40 @@ standing-left {t} {u} l st =
 -- a refusal keeps what is reached
 pub left-reached : {t u : Tables} → Reached t → Leaves t u → Beyond t u → Reached u
 left-reached r l b =
-    held-reached r (held-left l) b (rw (l .predicates) (r .sized .predicates)) (rw (l .seeds) (r .sized .seeds)) (rw (l .header .predicates) (r .counted .predicates))
-    (rw (l .header .positions) (r .counted .positions)) (standing-left l (r .standing))
+    let h = l .header in
+    held-reached r (held-left l) b
+    record {
+      predicates = rw (l .predicates) (r .sized .predicates);
+      seeds = rw (l .seeds) (r .sized .seeds);
+      cells = rw (l .rules) (r .sized .rules);
+      few-predicates = rw (h .predicates) (r .counted .predicates);
+      few-positions = rw (h .positions) (r .counted .positions);
+      few-rules = rw (h .rules) (r .counted .rules);
+      context = rw (h .context) (r .context);
+      standing = standing-left l (r .standing);
+      rules = rw (h .rules, h .positions, h .expressions, l .nodes, l .rules) (r .rules);
+    }
+
+-- ---- rules
+
+-- more arguments and expressions may stand
+pub rules-more : {n a a′ e e′ : ℕ} {nodes nodes′ cells : List ℕ} → a ≤ a′ → e ≤ e′ → ((i : ℕ) → i < e → expressionAt nodes′ i ≡ expressionAt nodes i) → Rules n a e nodes cells → Rules n a′ e′ nodes′ cells
+rules-more more grows same h = record {
+  at = λ id l.
+      let p = h .at id l in
+      record { rule = p .rule; context = p .context; inside = rule-in-more (p .rule .slots) more grows same (p .inside); back = p .back };
+}
+
+-- one more rule
+pub rules-new : {n a e : ℕ} {nodes cells cells′ : List ℕ} (q : Rule) (c : Context) → RuleIn a (scope nodes e (q .slots)) q → Row q c cells′ n →
+    ((p : Rule) (d : Context) (j : ℕ) → Short p → (j ≡ n → ⊥) → Row p d cells j → Row p d cells′ j) → Rules n a e nodes cells → Rules (n + 1) a e nodes cells′
+rules-new {n} {a} {e} {nodes} {cells} {cells′} q c inside back others h = record { at = λ id l. go id l (decLt id n) }
+  where
+    go : (id : ℕ) → id < n + 1 → Dec (id < n) → Ruled a e nodes cells′ id
+    go id l (yes b) =
+        let p = h .at id b in
+        record { rule = p .rule; context = p .context; inside = p .inside; back = others (p .rule) (p .context) id (p .inside .short) (λ d. omega arith) (p .back) }
+    go id l (no b) = let d : id ≡ n = omega arith in rw d record { rule = q; context = c; inside = inside; back = back }
 
 -- ---- a new constant
 
@@ -246,9 +299,6 @@ module _ {k : Key} {retained : Bool} {n id n′ m′ : ℕ} {names cells order n
       go j e (inr q) =
           let f = key-number (rw q at e) in
           rw q (subst TypedKey (sym f) typed, subst (λ (x : Key). Surrounds x c′ b) (sym f) s)
-
-  pub seeded-given : (width positions : ℕ) (seeds : List ℕ) → Seeded width n positions cells seeds → Seeded width n′ positions cells′ seeds
-  seeded-given width positions seeds h = seeded-constants n n′ cells cells′ given-more (g .kinds) width positions seeds h
 
 -- ---- the number of a constant, as the lattice reads it
 

@@ -8,14 +8,15 @@ use Rattle.limits.specs.Refusal.{Told}
 use Rattle.limits.specs.Metered.{Run, going, stopped}
 use Rattle.limits.proofs.Ends.{Ends, completes, stops, ends-as, where-stopped}
 use Rattle.store.specs.Store.{freshOf}
-use Rattle.input.specs.Input.{Tables, Call, context, work, predicate, argument, constant, expression, seedValue, seedInterval, Reply, Typed, call, left, played}
+use Rattle.input.specs.Input.{Tables, Call, context, work, predicate, argument, constant, expression, seedValue, seedInterval, rule, Reply, Typed, call, left, played}
 use Rattle.input.proofs.Reached.{Sized, Reached, fresh-reached}
 use Rattle.input.proofs.Left.{Leaves, Refused}
 use Rattle.input.proofs.Calls.{Keeps, context-keeps, work-keeps, argument-keeps, constant-keeps, expression-keeps}
 use Rattle.input.proofs.SeedCalls.{predicate-keeps, seed-value-keeps, seed-interval-keeps}
+use Rattle.input.proofs.RuleCalls.{rule-keeps}
 
 pub call-keeps : (c : Call) → Typed c → (t : Tables) → Reached t → Keeps c t
-call-keeps (context c) h t r = context-keeps c t r
+call-keeps (context c) h t r = context-keeps c t h r
 call-keeps (work n) h t r = work-keeps n t r
 call-keeps (predicate arity) h t r = predicate-keeps arity t r
 call-keeps (argument p i) h t r = argument-keeps p i t r
@@ -23,6 +24,7 @@ call-keeps (constant k) h t r = constant-keeps k t h r
 call-keeps (expression e) h t r = expression-keeps e t r
 call-keeps (seedValue a k) h t r = seed-value-keeps a k t r
 call-keeps (seedInterval a low high) h t r = seed-interval-keeps a low high t (h .0) (h .1) r
+call-keeps (rule q) h t r = rule-keeps q t r
 
 pub call-reached : (c : Call) → Typed c → (t : Tables) → Reached t → Ends (λ _ u. Reached u) (λ _ u. Reached u) (call c t)
 call-reached c h t r = ends-as (call-keeps c h t r) (λ _ u p. p) (λ _ u p. p .reached)

@@ -18,6 +18,10 @@ use Rattle.thresholds.proofs.Sorted.{Rises, rises-none}
 use Rattle.keys.specs.Key.{Key, number, kindAt, payloadAt, keyAt}
 use Rattle.nodes.specs.Node as nodes
 use Rattle.rows.specs.Row.{row}
+use Rattle.rules.specs.declared.Rule.{Rule}
+use Rattle.rules.specs.Rule as rules
+use Rattle.rules.proofs.RuleLaws.{Row, SmallContext}
+use Rattle.store.specs.declared.Context.{Context}
 use Rattle.store.specs.declared.Phase.the-variants.{Open, Absent}
 use Rattle.store.specs.declared.Counts.{Counts}
 use Rattle.store.specs.Store.{empty, freshOf}
@@ -25,8 +29,10 @@ use Rattle.constants.proofs.Keyed.{Retained, Keyed, keyed-none}
 use Rattle.constants.proofs.Keyed as keyed
 use Rattle.constants.proofs.Kept.{Surrounds}
 use Rattle.expressions.proofs.Nested.{Nested, nested-none}
-use Rattle.seeds.proofs.Seeded.{seeded-none, live-none, lost-none, lost-bound}
-use Rattle.seeds.proofs.Beside.{Standing}
+use Rattle.seeds.proofs.Seeded.{lost-bound}
+use Rattle.seeds.proofs.Beside.{Standing, standing-none}
+use Rattle.producers.specs.Producer.{scope}
+use Rattle.producers.proofs.Scoped.{RuleIn}
 use Rattle.input.specs.Input.{Tables}
 
 -- the tables have the sizes that calls ask for
@@ -39,6 +45,7 @@ pub record Sized (t : Tables) : Type 0 where
   pub nodes : length (t .nodes) ≡ nodes.row * 1024
   pub seeds : length (t .seeds) ≡ row * 256
   pub records : length (t .records) ≡ 2048
+  pub rules : length (t .rules) ≡ rules.row * 256
 
 -- and no more rows stand than they have room for
 pub record Counted (n : Counts) : Type 0 where
@@ -49,15 +56,29 @@ pub record Counted (n : Counts) : Type 0 where
   pub expressions : n .expressions ≤ 1024
   pub thresholds : n .thresholds ≤ 4096
   pub provenance : n .provenance ≤ 1024
+  pub rules : n .rules ≤ 256
 
 -- each of the first n constants that is a number is one of 32 bits, and stands with its neighbours among the first `count` thresholds
 pub record Numbers (n : ℕ) (cells : List ℕ) (count : ℕ) (table : List ℤ) : Type 0 where
   pub at : (id : ℕ) → id < n → kindAt cells id ≡ 1 → Number (ofCell (payloadAt cells id)) × Surrounds (number (ofCell (payloadAt cells id))) count table
 
+-- a rule's row reads back as one whose slots, arguments and expressions all exist
+pub record Ruled (arguments expressions : ℕ) (nodes cells : List ℕ) (id : ℕ) : Type 0 where
+  pub rule : Rule
+  pub context : Context
+  pub inside : RuleIn arguments (scope nodes expressions (rule .slots)) rule
+  pub back : Row rule context cells id
+
+-- the first n rules
+pub record Rules (n arguments expressions : ℕ) (nodes cells : List ℕ) : Type 0 where
+  pub at : (id : ℕ) → id < n → Ruled arguments expressions nodes cells id
+
 pub record Reached (t : Tables) : Type 0 where
   pub sized : Sized t
   pub counted : Counted (t .header .counts)
   pub narrow : t .header .budget .limits .width ≤ 16
+  -- the context in force, if there is one, has 32 bits
+  pub context : SmallContext (t .header .context)
   -- a key has one id, and the key order has all of them
   pub keyed : Keyed (t .header .counts .constants) (t .header .counts .keys) (t .names) (t .constants) (t .order)
   -- thresholds are in order, and those of numbers are there
@@ -67,23 +88,22 @@ pub record Reached (t : Tables) : Type 0 where
   pub nested : Nested (t .header .counts .constants) (t .header .counts .expressions) (t .nodes)
   -- seeds are regular, their entries are the live ones, and no more are counted as widened than have lost their list
   pub standing : Standing (t .constants) (t .header) (t .seeds)
+  pub rules : Rules (t .header .counts .rules) (t .header .counts .positions) (t .header .counts .expressions) (t .nodes) (t .rules)
 
 -- ---- a fresh store, whatever stands in the tables
 
 reached-empty : (l : Limits) (t : Tables) → l .width ≤ 16 → empty l Open ≡ t .header → Sized t → Reached t
 reached-empty l t w e z = record {
   sized = z;
-  counted = rw (← e) record { predicates = omega arith; positions = omega arith; constants = omega arith; keys = omega arith; expressions = omega arith; thresholds = omega arith; provenance = omega arith };
+  counted = rw (← e) record { predicates = omega arith; positions = omega arith; constants = omega arith; keys = omega arith; expressions = omega arith; thresholds = omega arith; provenance = omega arith; rules = omega arith };
   narrow = rw (← e) w;
+  context = rw (← e) tt;
   keyed = rw (← e) (keyed-none (t .names) (t .constants) (t .order));
   rises = rw (← e) (rises-none (t .thresholds));
   numbers = rw (← e) record { at = λ id h k. absurd (omega arith) };
   nested = rw (← e) (nested-none 0 (t .nodes));
-  standing = rw (← e) record {
-    seeded = seeded-none (l .width) 0 (t .constants) (t .seeds);
-    live = live-none (t .seeds);
-    lost = lost-none (t .seeds);
-  };
+  standing = rw (← e) (standing-none (t .constants) l Open (t .seeds));
+  rules = rw (← e) record { at = λ id h. absurd (omega arith) };
 }
 
 pub fresh-reached : (l : Limits) (t : Tables) → freshOf l ≡ going tt (t .header) → Sized t → Reached t

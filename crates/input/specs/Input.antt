@@ -7,6 +7,7 @@ use Rattle.limits.specs.Refusal.{Told}
 use Rattle.limits.specs.Metered.{Run, going, stopped, Metered, pure, _>>=_, zoom}
 use Rattle.keys.specs.Key.{Key, number, name}
 use Rattle.nodes.specs.declared.Expression.{Expression}
+use Rattle.rules.specs.declared.Rule.{Rule}
 use Rattle.store.specs.declared.Store.{Store}
 use Rattle.store.specs.Calls.{contextCall, workCall, argumentCall, predicateCall}
 use Rattle.store.specs.Calls as store
@@ -16,6 +17,8 @@ use Rattle.expressions.specs.Expression.{expressionCall}
 use Rattle.expressions.specs.Expression as expressions
 use Rattle.seeds.specs.Seed.{seedValueCall, seedIntervalCall}
 use Rattle.seeds.specs.Seed as seeds
+use Rattle.producers.specs.Producer.{ruleCall}
+use Rattle.producers.specs.Producer as producers
 
 -- ---- a store: the header, and the tables that its caller lends
 
@@ -49,6 +52,7 @@ pub data Call : Type 0 where
   seedValue : ℕ → ℕ → Call
   -- an argument and the ends of an interval
   seedInterval : ℕ → ℤ → ℤ → Call
+  rule : Rule → Call
 
 pub data Reply : Type 0 where
   done : Reply
@@ -68,6 +72,7 @@ Typed (constant k) = TypedKey k
 Typed (expression e) = Unit {0}
 Typed (seedValue a k) = Unit {0}
 Typed (seedInterval a low high) = Number low × Number high
+Typed (rule r) = Unit {0}
 
 -- ---- the tables that a call is lent, and the store with what it leaves of them
 
@@ -170,13 +175,30 @@ fromInterval u t = record {
   rules = t .rules;
 }
 
+abbrev pub forRule : Tables → producers.Tables
+forRule t = producers.tables (t .header) (t .rules) (t .records)
+
+abbrev pub fromRule : producers.Tables → Tables → Tables
+fromRule u t = record {
+  header = u .header;
+  predicates = t .predicates;
+  names = t .names;
+  constants = t .constants;
+  order = t .order;
+  thresholds = t .thresholds;
+  nodes = t .nodes;
+  seeds = t .seeds;
+  records = u .records;
+  rules = u .rules;
+}
+
 -- ---- a call on the whole store
 
 -- a call on its part, and its answer as a reply
 abbrev pub on : {T A : Type 0} → (Tables → T) → (T → Tables → Tables) → (A → Reply) → Metered Told T A → Metered Told Tables Reply
 on get put reply m = zoom get put m >>= (λ a. pure (reply a))
 
--- two calls read tables that they do not change: the rows of predicates and the constants
+-- three calls read a table that they do not change: the rows of predicates, the constants, the expressions
 unfoldable pub call : Call → Metered Told Tables Reply
 call (context c) = on (λ t. t .header) withHeader (λ _. done) (contextCall c)
 call (work n) = on (λ t. t .header) withHeader (λ _. done) (workCall n)
@@ -186,6 +208,7 @@ call (constant k) = on forConstant fromConstant id (constantCall k)
 call (expression e) = on forExpression fromExpression id (expressionCall e)
 call (seedValue a k) = λ t. on forValue fromValue (λ _. done) (seedValueCall (t .constants) a k) t
 call (seedInterval a low high) = on forInterval fromInterval (λ _. done) (seedIntervalCall a low high)
+call (rule r) = λ t. on forRule fromRule id (ruleCall (t .nodes) r) t
 
 -- ---- calls one after another
 
