@@ -66,6 +66,7 @@ context-reached {t} r c h =
       few-positions = r .counted .positions;
       few-rules = r .counted .rules;
       context = h;
+      laid = r .laid;
       standing = record { seeded = r .standing .seeded; live = r .standing .live; lost = r .standing .lost };
       rules = r .rules;
     }
@@ -159,6 +160,7 @@ module _ {t : Tables} (r : Reached t) (k : Key) where
         };
         narrow = rw (h .spent .limits) (r .narrow);
         context = rw (h .context) (r .context);
+        laid = rw (h .predicates, h .positions) (r .laid);
         keyed = g .keyed;
         rises = a .thresholds .rises;
         numbers = numbers-given g typed (a .thresholds) (a .surrounds) (r .numbers);
@@ -244,6 +246,7 @@ module _ {t : Tables} (r : Reached t) (e : Expression) where
         };
         narrow = rw (h, a .spent .limits) (r .narrow);
         context = rw h (r .context);
+        laid = rw h (r .laid);
         keyed = rw h (r .keyed);
         rises = rw h (r .rises);
         numbers = rw h (r .numbers);

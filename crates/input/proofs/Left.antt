@@ -5,11 +5,12 @@ use native.Mathlib.Decide.{decLt}
 use mathlib.Core.Path.{_≡_, refl, sym, subst, _∙_}
 use mathlib.Core.Logic.{_⊎_, inl, inr}
 use mathlib.Core.Bool.{Bool, true, false, cond}
-use mathlib.Core.List.{List}
+use mathlib.Core.List.{List, [], _∷_}
 use borrow.Author.Tests.{eqb-true, eq-eqb}
 use lib.Dec.{eqb}
 use lib.IntN.{ℤ}
 use lib.ListN.{length}
+use lib.Seq.{sets}
 use Rattle.integers.specs.Order.{Number}
 use Rattle.limits.specs.Refusal.{Told}
 use Rattle.limits.specs.Metered.{Metered, pure}
@@ -20,6 +21,7 @@ use Rattle.lattice.specs.Constants.{constantOf, constantAt}
 use Rattle.cells.specs.Cells.{ofCell}
 use Rattle.thresholds.proofs.Sorted.{Rises}
 use Rattle.keys.specs.Key.{Key, number, kindAt, payloadAt, keyAt}
+use Rattle.keys.proofs.CodecLaws.{kind-back, payload-back, kind-kept, payload-kept}
 use Rattle.nodes.specs.Node.{expressionAt}
 use Rattle.rows.specs.Row.{row}
 use Rattle.rules.specs.declared.Rule.{Rule}
@@ -27,6 +29,7 @@ use Rattle.rules.specs.Rule as rules
 use Rattle.rules.proofs.RuleLaws.{Short, Row, SmallContext}
 use Rattle.store.specs.declared.Context.{Context}
 use Rattle.store.specs.declared.Store.{Store}
+use Rattle.store.specs.Calls.{firstOf, arityOf}
 use Rattle.store.proofs.Frame.{Spent, spent-none, Charging}
 use Rattle.constants.proofs.Kept.{Stands, Surrounds, Marked, Numbered, again, newly, Given}
 use Rattle.constants.proofs.Steps.{on-bind}
@@ -34,7 +37,7 @@ use Rattle.seeds.proofs.Beside.{Standing}
 use Rattle.producers.specs.Producer.{scope}
 use Rattle.producers.proofs.Scoped.{RuleIn, rule-in-more}
 use Rattle.input.specs.Input.{Tables, Reply, TypedKey, on}
-use Rattle.input.proofs.Reached.{Numbers, Ruled, Rules, Reached}
+use Rattle.input.proofs.Reached.{Laid, Numbers, Ruled, Rules, Reached}
 
 -- ---- a call on a part of the store
 
@@ -154,6 +157,7 @@ pub record Rest (u : Tables) : Type 0 where
   pub few-positions : u .header .counts .positions ≤ 256
   pub few-rules : u .header .counts .rules ≤ 256
   pub context : SmallContext (u .header .context)
+  pub laid : Laid (u .header .counts .predicates) (u .header .counts .positions) (u .predicates)
   pub standing : Standing (u .constants) (u .header) (u .seeds)
   pub rules : Rules (u .header .counts .rules) (u .header .counts .positions) (u .header .counts .expressions) (u .nodes) (u .rules)
 
@@ -183,6 +187,7 @@ held-reached {t} {u} r h b x = record {
   };
   narrow = rw (h .limits) (r .narrow);
   context = x .context;
+  laid = x .laid;
   keyed = rw (h .count, h .keys, h .names, h .constants, h .order) (r .keyed);
   rises = b .rises;
   numbers = rw (h .count, h .constants) (numbers-marks (b .old) (r .numbers));
@@ -224,9 +229,36 @@ left-reached r l b =
       few-positions = rw (h .positions) (r .counted .positions);
       few-rules = rw (h .rules) (r .counted .rules);
       context = rw (h .context) (r .context);
+      laid = rw (h .predicates, h .positions, l .predicates) (r .laid);
       standing = standing-left l (r .standing);
       rules = rw (h .rules, h .positions, h .expressions, l .nodes, l .rules) (r .rules);
     }
+
+-- ---- a new predicate
+
+pub laid-new : {n positions : ℕ} (rows : List ℕ) (arity : ℕ) → 2 * n + 2 ≤ length rows → Laid n positions rows → Laid (n + 1) (positions + arity) (sets rows (2 * n) (positions ∷ arity ∷ []))
+laid-new {n} {positions} rows arity room h = record { within = λ p l. inside p l (decLt p n); apart = λ p q l k. between p q l k (decLt q n) }
+  where
+    rows′ : List ℕ
+    rows′ = sets rows (2 * n) (positions ∷ arity ∷ [])
+
+    -- the rows before it stay
+    first : (p : ℕ) → p < n → firstOf rows′ p ≡ firstOf rows p
+    first p l = kind-kept rows n p positions arity (λ e. omega arith)
+
+    second : (p : ℕ) → p < n → arityOf rows′ p ≡ arityOf rows p
+    second p l = payload-kept rows n p positions arity (λ e. omega arith)
+
+    inside : (p : ℕ) → p < n + 1 → Dec (p < n) → firstOf rows′ p + arityOf rows′ p ≤ positions + arity
+    inside p l (yes b) = omega (arith, first p b, second p b, h .within p b)
+    inside p l (no b) = let e : p ≡ n = omega arith in rw e (omega (arith, kind-back rows n room positions arity, payload-back rows n room positions arity))
+
+    between : (p q : ℕ) → p < q → q < n + 1 → Dec (q < n) → firstOf rows′ p + arityOf rows′ p ≤ firstOf rows′ q
+    between p q l k (yes b) = let c : p < n = omega arith in omega (arith, first p c, second p c, first q b, h .apart p q l b)
+    between p q l k (no b) =
+        let e : q ≡ n = omega arith in
+        let c : p < n = omega arith in
+        rw e (omega (arith, first p c, second p c, kind-back rows n room positions arity, h .within p c))
 
 -- ---- rules
 

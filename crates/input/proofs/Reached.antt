@@ -1,18 +1,21 @@
 -- What holds of a store between calls, and of a fresh one. `Played` shows that every list of calls keeps it.
-use Prim.Native.Nat.{ℕ, _*_, _≤_, _<_}
+use Prim.Native.Nat.{ℕ, _+_, _*_, _≤_, _<_}
 use native.Mathlib.Omega.{arith}
-use mathlib.Core.Path.{_≡_, refl}
-use mathlib.Core.Bool.{Bool, true, false, cond}
+use mathlib.Core.Path.{_≡_, refl, ap}
+use mathlib.Core.Bool.{Bool, true, false, cond, _&&_}
 use mathlib.Core.List.{List}
-use borrow.Author.Tests.{leb-true}
-use lib.Dec.{leb}
+use borrow.Author.Tests.{leb-true, le-leb, ltb-true}
+use lib.Dec.{leb, ltb, eqb}
 use lib.IntN.{ℤ}
 use lib.ListN.{length}
 use Rattle.integers.specs.Order.{Number}
+use Rattle.integers.proofs.Tests.{and-right}
+use Rattle.integers.proofs.ListLaws.{Compared, less, more, same, compared}
 use Rattle.limits.specs.declared.Limits.{Limits}
 use Rattle.limits.specs.declared.Refusal.the-variants.{Shape}
 use Rattle.limits.specs.Refusal.{told}
 use Rattle.limits.specs.Metered.{going, stopped}
+use Rattle.limits.proofs.Ends.{Ends, stops, ends-pure, ends-test}
 use Rattle.cells.specs.Cells.{ofCell}
 use Rattle.thresholds.proofs.Sorted.{Rises, rises-none}
 use Rattle.keys.specs.Key.{Key, number, kindAt, payloadAt, keyAt}
@@ -25,6 +28,7 @@ use Rattle.store.specs.declared.Context.{Context}
 use Rattle.store.specs.declared.Phase.the-variants.{Open, Absent}
 use Rattle.store.specs.declared.Counts.{Counts}
 use Rattle.store.specs.Store.{empty, freshOf}
+use Rattle.store.specs.Calls.{firstOf, arityOf, open?, argumentCall}
 use Rattle.constants.proofs.Keyed.{Retained, Keyed, keyed-none}
 use Rattle.constants.proofs.Keyed as keyed
 use Rattle.constants.proofs.Kept.{Surrounds}
@@ -58,6 +62,11 @@ pub record Counted (n : Counts) : Type 0 where
   pub provenance : n .provenance ≤ 1024
   pub rules : n .rules ≤ 256
 
+-- the arguments of the first n predicates lie one after another, below `positions`
+pub record Laid (n positions : ℕ) (rows : List ℕ) : Type 0 where
+  pub within : (p : ℕ) → p < n → firstOf rows p + arityOf rows p ≤ positions
+  pub apart : (p q : ℕ) → p < q → q < n → firstOf rows p + arityOf rows p ≤ firstOf rows q
+
 -- each of the first n constants that is a number is one of 32 bits, and stands with its neighbours among the first `count` thresholds
 pub record Numbers (n : ℕ) (cells : List ℕ) (count : ℕ) (table : List ℤ) : Type 0 where
   pub at : (id : ℕ) → id < n → kindAt cells id ≡ 1 → Number (ofCell (payloadAt cells id)) × Surrounds (number (ofCell (payloadAt cells id))) count table
@@ -79,6 +88,8 @@ pub record Reached (t : Tables) : Type 0 where
   pub narrow : t .header .budget .limits .width ≤ 16
   -- the context in force, if there is one, has 32 bits
   pub context : SmallContext (t .header .context)
+  -- a predicate's arguments exist, and are its own
+  pub laid : Laid (t .header .counts .predicates) (t .header .counts .positions) (t .predicates)
   -- a key has one id, and the key order has all of them
   pub keyed : Keyed (t .header .counts .constants) (t .header .counts .keys) (t .names) (t .constants) (t .order)
   -- thresholds are in order, and those of numbers are there
@@ -98,6 +109,7 @@ reached-empty l t w e z = record {
   counted = rw (← e) record { predicates = omega arith; positions = omega arith; constants = omega arith; keys = omega arith; expressions = omega arith; thresholds = omega arith; provenance = omega arith; rules = omega arith };
   narrow = rw (← e) w;
   context = rw (← e) tt;
+  laid = rw (← e) record { within = λ p h. absurd (omega arith); apart = λ p q h k. absurd (omega arith) };
   keyed = rw (← e) (keyed-none (t .names) (t .constants) (t .order));
   rises = rw (← e) (rises-none (t .thresholds));
   numbers = rw (← e) record { at = λ id h k. absurd (omega arith) };
@@ -105,6 +117,10 @@ reached-empty l t w e z = record {
   standing = rw (← e) (standing-none (t .constants) l Open (t .seeds));
   rules = rw (← e) record { at = λ id h. absurd (omega arith) };
 }
+
+-- with a width of at most 16 there is one
+pub fresh-open : (l : Limits) → l .width ≤ 16 → freshOf l ≡ going tt (empty l Open)
+fresh-open l h = rw (le-leb (l .width) 16 h)
 
 pub fresh-reached : (l : Limits) (t : Tables) → freshOf l ≡ going tt (t .header) → Sized t → Reached t
 fresh-reached l t = go (leb (l .width) 16) refl
@@ -126,3 +142,35 @@ module _ {t : Tables} (r : Reached t) where
   widened-few =
       let a : t .header .budget .statistics .widened ≤ t .header .counts .positions = lost-bound _ _ (t .seeds) (r .standing .lost) in
       omega (arith, r .counted .positions)
+
+  -- a predicate's arguments exist
+  pub argument-exists : (p i : ℕ) → p < t .header .counts .predicates → i < arityOf (t .predicates) p → firstOf (t .predicates) p + i < t .header .counts .positions
+  argument-exists p i h k = omega (arith, r .laid .within p h)
+
+  -- and no two of them are the same
+  pub one-argument : (p q i j : ℕ) → p < t .header .counts .predicates → q < t .header .counts .predicates → i < arityOf (t .predicates) p → j < arityOf (t .predicates) q →
+      firstOf (t .predicates) p + i ≡ firstOf (t .predicates) q + j → (p ≡ q) × (i ≡ j)
+  one-argument p q i j h k l m e = go (compared p q)
+    where
+      go : Compared p q → (p ≡ q) × (i ≡ j)
+      go (less b) = absurd (omega (arith, r .laid .apart p q b k))
+      go (more b) = absurd (omega (arith, r .laid .apart q p b h))
+      go (same b) = let f : firstOf (t .predicates) p ≡ firstOf (t .predicates) q = ap (firstOf (t .predicates)) b in (b, omega arith)
+
+  -- so `argument` answers one that exists
+  pub argument-answers : (p i : ℕ) → Ends (λ a s. a < s .counts .positions) (λ _ _. Unit {0}) (argumentCall p i (t .predicates) (t .header))
+  unfolding argumentCall
+  argument-answers p i =
+      ends-test (eqb (length (t .predicates)) 128)
+      (λ _.
+      ends-test (open? (t .header))
+      (λ _.
+      ends-test (ltb p 64 && ltb p (t .header .counts .predicates))
+      (λ h.
+      ends-test (ltb i (arityOf (t .predicates) p))
+      (λ k.
+      ends-pure (firstOf (t .predicates) p + i) (t .header) (argument-exists p i (ltb-true p (t .header .counts .predicates) (and-right (ltb p 64) _ h)) (ltb-true i (arityOf (t .predicates) p) k)))
+      (λ _. stops tt))
+      (λ _. stops tt))
+      (λ _. stops tt))
+      (λ _. stops tt)

@@ -172,6 +172,7 @@ module _ {t : Tables} (r : Reached t) (q : Rule) where
         few-positions = rw h (r .counted .positions);
         few-rules = omega (arith, ap (λ (s : Store). s .counts .rules) h, a .fits);
         context = rw h (r .context);
+        laid = rw h (r .laid);
         standing = rw h record {
           seeded = rw (a .spent .limits) (r .standing .seeded);
           live = rw (a .spent .entries) (r .standing .live);

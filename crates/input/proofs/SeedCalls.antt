@@ -23,7 +23,7 @@ use Rattle.seeds.proofs.KeptPredicate.{PredicateTaken, PredicateRefused, predic
 use Rattle.input.specs.Input.{Tables, done, id, forPredicate, fromPredicate, forValue, fromValue, forInterval, fromInterval, call}
 use Rattle.input.specs.Input as input
 use Rattle.input.proofs.Reached.{Reached}
-use Rattle.input.proofs.Left.{on-ends, Steady, Leaves, Refused, early, Beyond, beyond-none, Held, Rest, held-reached, rules-more, left-reached, number-known}
+use Rattle.input.proofs.Left.{on-ends, Steady, Leaves, Refused, early, Beyond, beyond-none, Held, Rest, held-reached, rules-more, laid-new, left-reached, number-known}
 use Rattle.input.proofs.Calls.{Keeps}
 
 -- ---- the header in the words of the seeds
@@ -64,6 +64,7 @@ module _ {t : Tables} (r : Reached t) (arity : ℕ) where
         few-positions = rw h (a .most);
         few-rules = rw h (r .counted .rules);
         context = rw h (r .context);
+        laid = rw (h, a .rows) (laid-new (t .predicates) arity (omega (arith, r .sized .predicates, a .few)) (r .laid));
         standing = a .standing;
         rules = rw h (rules-more (omega arith) (omega arith) (λ i l. refl) (r .rules));
       }
@@ -105,6 +106,7 @@ module _ {a b : ℕ} {t u : Tables} (h : Beside a b (t .header) (u .header)) whe
     few-positions = rw (h .positions) (r .counted .positions);
     few-rules = rw (h .rules) (r .counted .rules);
     context = rw (h .context) (r .context);
+    laid = rw (h .predicates, h .positions, p) (r .laid);
     standing = st;
     rules = rw (h .rules, h .positions, h .expressions, e, q) (r .rules);
   }
