@@ -8,7 +8,7 @@ use lib.Dec.{leb, ltb, eqb}
 use lib.ListN.{length}
 use Rattle.limits.specs.Refusal.{Told}
 use Rattle.limits.specs.Metered.{Run}
-use Rattle.limits.proofs.Ends.{Ends, completes, stops, ends-pure, ends-test, ends-as, ends-both}
+use Rattle.limits.proofs.Ends.{Ends, completes, stops, ends-pure, ends-test, ends-as, ends-both, in-some-way}
 use Rattle.keys.specs.Key.{Key, number, name}
 use Rattle.nodes.specs.declared.Expression.{Expression}
 use Rattle.rules.proofs.RuleLaws.{SmallContext}
@@ -17,13 +17,12 @@ use Rattle.store.specs.declared.Context.the-variants.{Some}
 use Rattle.store.specs.declared.Store.{Store}
 use Rattle.store.specs.Store.{withContext}
 use Rattle.store.specs.Calls.{open?, arityOf, firstOf, contextCall, workCall, argumentCall}
-use Rattle.store.proofs.Frame.{spends-work, Charging}
+use Rattle.store.proofs.Frame.{spends-work, Charging, Limited, pays}
 use Rattle.constants.specs.Constant.{bytesOf, spacious, constantCall}
 use Rattle.constants.specs.Constant as constants
 use Rattle.constants.proofs.CodeLaws.{room-yes}
 use Rattle.constants.proofs.Kept.{Accepted, Declined}
 use Rattle.constants.proofs.Kept as kept
-use Rattle.constants.proofs.Steps.{in-some-way, Limited, pays}
 use Rattle.expressions.specs.Expression.{expressionCall}
 use Rattle.expressions.specs.Expression as expressions
 use Rattle.expressions.proofs.Nested.{nested-more-constants, expression-ends}
@@ -32,32 +31,35 @@ use Rattle.seeds.proofs.Beside.{standing-on}
 use Rattle.input.specs.Input.{Tables, Call, done, id, TypedKey, withHeader, forConstant, fromConstant, forExpression, fromExpression, call}
 use Rattle.input.specs.Input as input
 use Rattle.input.proofs.Reached.{Reached}
-use Rattle.input.proofs.Left.{on-ends, Steady, steady-none, steady-charge, Leaves, Refused, early, Beyond, beyond-none, held-reached, left-reached, given-more, given-few, numbers-given, rules-more}
+use Rattle.input.proofs.Left.{on-ends, Steady, steady-none, steady-charge, Leaves, Refused, early, Beyond, beyond-none, left-reached, given-more, given-few, numbers-given, rules-more, Goes, goes}
 
 -- ---- what a call leaves
 
 abbrev pub Keeps : Call → Tables → Type 0
-Keeps c t = Ends (λ _ u. Reached u) (Refused t) (call c t)
+Keeps c t = Ends (λ _ u. Goes t u) (Refused t) (call c t)
 
 leaves-header : {t : Tables} {s : Store} → Steady (t .header) s → Leaves t (withHeader s t)
 leaves-header h = record { predicates = refl; names = refl; constants = refl; order = refl; nodes = refl; seeds = refl; rules = refl; header = h }
 
 -- a call that is turned down at once
 pub refused-none : {t : Tables} → Reached t → (e : Told) → Refused t e t
-refused-none {t} r e = record { reached = r; leaves = leaves-header (steady-none (t .header)); untouched = λ _. refl }
+refused-none {t} r e = record { reached = r; leaves = leaves-header (steady-none (t .header)); stay = λ z h. h; untouched = λ _. refl }
 
 module _ {t : Tables} (r : Reached t) {s : Store} (c : Charging (t .header) s) where
-  charge-reached : Reached (withHeader s t)
-  charge-reached = left-reached r (leaves-header (steady-charge c)) (beyond-none r refl refl (rw (c .is)) (rw (c .is)))
+  charge-beyond : Beyond t (withHeader s t)
+  charge-beyond = beyond-none r refl refl (rw (c .is)) (rw (c .is))
+
+  charge-reached : Goes t (withHeader s t)
+  charge-reached = record { reached = left-reached r (leaves-header (steady-charge c)) charge-beyond; stay = charge-beyond .old }
 
   charge-refused : (e : Told) → Limited e → Refused t e (withHeader s t)
-  charge-refused e l = record { reached = charge-reached; leaves = leaves-header (steady-charge c); untouched = λ h. absurd (omega (arith, early h)) }
+  charge-refused e l = record { reached = charge-reached .reached; leaves = leaves-header (steady-charge c); stay = charge-beyond .old; untouched = λ h. absurd (omega (arith, early h)) }
 
 -- ---- `context`, `work` and `argument`
 
-context-reached : {t : Tables} → Reached t → (c : Context) → SmallContext c → Reached (withHeader (withContext c (t .header)) t)
+context-reached : {t : Tables} → Reached t → (c : Context) → SmallContext c → Goes t (withHeader (withContext c (t .header)) t)
 context-reached {t} r c h =
-    held-reached r (record { names = refl; constants = refl; order = refl; nodes = refl; count = refl; keys = refl; expressions = refl; limits = refl }) (beyond-none r refl refl refl refl)
+    goes r (record { names = refl; constants = refl; order = refl; nodes = refl; count = refl; keys = refl; expressions = refl; limits = refl }) (beyond-none r refl refl refl refl)
     record {
       predicates = r .sized .predicates;
       seeds = r .sized .seeds;
@@ -74,7 +76,7 @@ context-reached {t} r c h =
 pub context-keeps : (c : ℕ) (t : Tables) → c < 2 ^ 32 → Reached t → Keeps (input.context c) t
 unfolding call contextCall
 context-keeps c t h r =
-    on-ends (λ u. u .header) withHeader (λ _. done) {P = λ _ s. Reached (withHeader s t)} {Q = λ e s. Refused t e (withHeader s t)} (contextCall c) t
+    on-ends (λ u. u .header) withHeader (λ _. done) {P = λ _ s. Goes t (withHeader s t)} {Q = λ e s. Refused t e (withHeader s t)} (contextCall c) t
     (ends-test (open? (t .header)) (λ _. completes (context-reached r (Some c) h)) (λ _. stops (refused-none r _)))
     (λ _ s h. h)
     (λ e s h. h)
@@ -82,7 +84,7 @@ context-keeps c t h r =
 pub work-keeps : (n : ℕ) (t : Tables) → Reached t → Keeps (input.work n) t
 unfolding call workCall
 work-keeps n t r =
-    on-ends (λ u. u .header) withHeader (λ _. done) {P = λ _ s. Reached (withHeader s t)} {Q = λ e s. Refused t e (withHeader s t)} (workCall n) t
+    on-ends (λ u. u .header) withHeader (λ _. done) {P = λ _ s. Goes t (withHeader s t)} {Q = λ e s. Refused t e (withHeader s t)} (workCall n) t
     (ends-test (open? (t .header))
     (λ _. ends-as (pays (spends-work n) (t .header)) (λ _ s c. charge-reached r c) (λ e s c. charge-refused r (c .1) e (c .0)))
     (λ _. stops (refused-none r _)))
@@ -92,13 +94,13 @@ work-keeps n t r =
 pub argument-keeps : (p i : ℕ) (t : Tables) → Reached t → Keeps (input.argument p i) t
 unfolding call argumentCall
 argument-keeps p i t r =
-    on-ends (λ u. u .header) withHeader id {P = λ _ s. Reached (withHeader s t)} {Q = λ e s. Refused t e (withHeader s t)} (argumentCall p i (t .predicates)) t
+    on-ends (λ u. u .header) withHeader id {P = λ _ s. Goes t (withHeader s t)} {Q = λ e s. Refused t e (withHeader s t)} (argumentCall p i (t .predicates)) t
     (ends-test (eqb (length (t .predicates)) 128)
     (λ _.
     ends-test (open? (t .header))
     (λ _.
     ends-test (ltb p 64 && ltb p (t .header .counts .predicates))
-    (λ _. ends-test (ltb i (arityOf (t .predicates) p)) (λ _. ends-pure (firstOf (t .predicates) p + i) (t .header) r) (λ _. stops (refused-none r _)))
+    (λ _. ends-test (ltb i (arityOf (t .predicates) p)) (λ _. ends-pure (firstOf (t .predicates) p + i) (t .header) (record { reached = r; stay = λ z h. h })) (λ _. stops (refused-none r _)))
     (λ _. stops (refused-none r _)))
     (λ _. stops (refused-none r _)))
     (λ _. stops (refused-none r _)))
@@ -130,8 +132,8 @@ typed-key (number v) h = h
 typed-key (name s) h = tt
 
 module _ {t : Tables} (r : Reached t) (k : Key) where
-  constant-accepted : TypedKey k → {i : ℕ} {u : constants.Tables} → Accepted k (forConstant t) i u → spacious (t .header .counts) ≡ true → Reached (fromConstant u t)
-  constant-accepted typed {i} {u} a room =
+  constant-reached : TypedKey k → {i : ℕ} {u : constants.Tables} → Accepted k (forConstant t) i u → spacious (t .header .counts) ≡ true → Reached (fromConstant u t)
+  constant-reached typed {i} {u} a room =
       let n = room-yes (t .header .counts) room in
       let g = a .constants in
       let h = a .header in
@@ -170,7 +172,7 @@ module _ {t : Tables} (r : Reached t) (k : Key) where
       }
 
   constant-declined : {e : Told} {u : constants.Tables} → Declined k (forConstant t) e u → (u ≡ forConstant t) ⊎ (spacious (t .header .counts) ≡ true) → Refused t e (fromConstant u t)
-  constant-declined {e} {u} d room = record { reached = left-reached r leaves beyond; leaves = leaves; untouched = λ h. ap (λ (v : constants.Tables). fromConstant v t) (d .untouched h) }
+  constant-declined {e} {u} d room = record { reached = left-reached r leaves beyond; leaves = leaves; stay = beyond .old; untouched = λ h. ap (λ (v : constants.Tables). fromConstant v t) (d .untouched h) }
     where
       leaves : Leaves t (fromConstant u t)
       leaves =
@@ -213,14 +215,14 @@ pub constant-keeps : (k : Key) (t : Tables) → TypedKey k → Reached t → Kee
 unfolding call
 constant-keeps k t typed r =
     on-ends forConstant fromConstant id (constantCall k) t (ends-both (kept.constant-keeps k (typed-key k typed) (forConstant t) (r .keyed) (r .rises)) (constant-room k (forConstant t)))
-    (λ i u p. constant-accepted r k typed (p .0) (p .1))
+    (λ i u p. record { reached = constant-reached r k typed (p .0) (p .1); stay = p .0 .thresholds .old })
     (λ e u p. constant-declined r k (p .0) (p .1))
 
 -- ---- `expression`
 
 module _ {t : Tables} (r : Reached t) (e : Expression) where
-  expression-accepted : {i : ℕ} {u : expressions.Tables} → nested.Accepted e (forExpression t) i u → Reached (fromExpression u t)
-  expression-accepted {i} {u} a =
+  expression-reached : {i : ℕ} {u : expressions.Tables} → nested.Accepted e (forExpression t) i u → Reached (fromExpression u t)
+  expression-reached {i} {u} a =
       let h = a .is in
       record {
         sized = record {
@@ -260,7 +262,7 @@ module _ {t : Tables} (r : Reached t) (e : Expression) where
       }
 
   expression-refused : {x : Told} {u : expressions.Tables} → nested.Refused (forExpression t) x u → Refused t x (fromExpression u t)
-  expression-refused {x} {u} d = record { reached = left-reached r leaves (beyond-none r refl refl (rw (d .spending .is)) (rw (d .spending .is))); leaves = leaves; untouched = λ h. ap (λ (v : expressions.Tables). fromExpression v t) (d .early (early h)) }
+  expression-refused {x} {u} d = record { reached = left-reached r leaves (beyond-none r refl refl (rw (d .spending .is)) (rw (d .spending .is))); leaves = leaves; stay = λ z h. rw (d .spending .is) h; untouched = λ h. ap (λ (v : expressions.Tables). fromExpression v t) (d .early (early h)) }
     where
       leaves : Leaves t (fromExpression u t)
       leaves = rw (d .spending .is) record {
@@ -277,4 +279,4 @@ module _ {t : Tables} (r : Reached t) (e : Expression) where
 pub expression-keeps : (e : Expression) (t : Tables) → Reached t → Keeps (input.expression e) t
 unfolding call
 expression-keeps e t r =
-    on-ends forExpression fromExpression id (expressionCall e) t (expression-ends e (forExpression t) (r .nested)) (λ i u p. expression-accepted r e p) (λ x u p. expression-refused r e p)
+    on-ends forExpression fromExpression id (expressionCall e) t (expression-ends e (forExpression t) (r .nested)) (λ i u p. record { reached = expression-reached r e p; stay = λ z h. rw (p .is) h }) (λ x u p. expression-refused r e p)

@@ -14,7 +14,7 @@ use lib.Seq.{sets}
 use Rattle.integers.specs.Order.{Number}
 use Rattle.limits.specs.Refusal.{Told}
 use Rattle.limits.specs.Metered.{Metered, pure}
-use Rattle.limits.proofs.Ends.{Ends, completes}
+use Rattle.limits.proofs.Ends.{Ends, completes, on-bind}
 use Rattle.interval.specs.declared.Constant.the-variants.{Name, Large}
 use Rattle.interval.specs.declared.Constant.the-variants as constant
 use Rattle.lattice.specs.Constants.{constantOf, constantAt}
@@ -32,7 +32,6 @@ use Rattle.store.specs.declared.Store.{Store}
 use Rattle.store.specs.Calls.{firstOf, arityOf}
 use Rattle.store.proofs.Frame.{Spent, spent-none, Charging}
 use Rattle.constants.proofs.Kept.{Stands, Surrounds, Marked, Numbered, again, newly, Given}
-use Rattle.constants.proofs.Steps.{on-bind}
 use Rattle.seeds.proofs.Beside.{Standing}
 use Rattle.producers.specs.Producer.{scope}
 use Rattle.producers.proofs.Scoped.{RuleIn, rule-in-more}
@@ -98,10 +97,20 @@ pub record Leaves (t u : Tables) : Type 0 where
   pub rules : u .rules ≡ t .rules
   pub header : Steady (t .header) (u .header)
 
+-- every threshold that stood stands
+abbrev pub Stay : Tables → Tables → Type 0
+Stay t u = (z : ℤ) → Stands (t .header .counts .thresholds) (t .thresholds) z → Stands (u .header .counts .thresholds) (u .thresholds) z
+
+-- a call that is accepted
+pub record Goes (t u : Tables) : Type 0 where
+  pub reached : Reached u
+  pub stay : Stay t u
+
 -- a call that is turned down, with e
 pub record Refused (t : Tables) (e : Told) (u : Tables) : Type 0 where
   pub reached : Reached u
   pub leaves : Leaves t u
+  pub stay : Stay t u
   -- refusals 1 and 2 change nothing
   pub untouched : (e .number ≡ 1) ⊎ (e .number ≡ 2) → u ≡ t
 
@@ -113,7 +122,7 @@ early (inr h) = omega arith
 
 pub record Beyond (t u : Tables) : Type 0 where
   pub rises : Rises (u .header .counts .thresholds) (u .thresholds)
-  pub old : (z : ℤ) → Stands (t .header .counts .thresholds) (t .thresholds) z → Stands (u .header .counts .thresholds) (u .thresholds) z
+  pub old : Stay t u
   pub marks : length (u .thresholds) ≡ length (t .thresholds)
   pub few-marks : u .header .counts .thresholds ≤ 4096
   pub records : length (u .records) ≡ length (t .records)
@@ -195,6 +204,9 @@ held-reached {t} {u} r h b x = record {
   standing = x .standing;
   rules = x .rules;
 }
+
+pub goes : {t u : Tables} → Reached t → Held t u → Beyond t u → Rest u → Goes t u
+goes r h b x = record { reached = held-reached r h b x; stay = b .old }
 
 held-left : {t u : Tables} → Leaves t u → Held t u
 held-left h = record {

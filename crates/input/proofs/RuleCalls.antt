@@ -15,7 +15,7 @@ use Rattle.limits.specs.declared.Refusal.the-variants.{Limit}
 use Rattle.limits.specs.Refusal.{Told, told}
 use Rattle.limits.specs.Metered.{Metered, _>>_}
 use Rattle.limits.specs.Meter.{Meter, meterOf, withMeter}
-use Rattle.limits.proofs.Ends.{Ends, completes, stops, ends-as, ends-both, ends-pure, ends-test, ends-then, ends-through}
+use Rattle.limits.proofs.Ends.{Ends, completes, stops, ends-as, ends-both, ends-pure, ends-test, ends-then, ends-through, in-some-way}
 use Rattle.rules.specs.declared.Head.{Head}
 use Rattle.rules.specs.declared.Rule.{Rule}
 use Rattle.rules.specs.Rule.{headsOf}
@@ -25,7 +25,6 @@ use Rattle.store.specs.declared.Store.{Store}
 use Rattle.store.specs.Store.{withBudget}
 use Rattle.store.specs.Calls.{open?, charged}
 use Rattle.provenance.specs.Provenance.{Records, records, recordIn, provenance, recordable}
-use Rattle.constants.proofs.Steps.{in-some-way}
 use Rattle.producers.specs.Producer.{Scope, scopeOf, checking, inStore, checkValue, checkHead, checkHeads, checkBody, checkRule, inHeader, inRecords, shapely, sizes, spacious, cost, addRule, ruleCall}
 use Rattle.producers.specs.Producer as producers
 use Rattle.producers.proofs.Kept.{Accepted, rule-ends}
@@ -33,7 +32,7 @@ use Rattle.producers.proofs.Kept as kept
 use Rattle.input.specs.Input.{Tables, id, forRule, fromRule, call}
 use Rattle.input.specs.Input as input
 use Rattle.input.proofs.Reached.{Reached}
-use Rattle.input.proofs.Left.{on-ends, Leaves, Refused, early, Beyond, held-reached, left-reached, rules-new}
+use Rattle.input.proofs.Left.{on-ends, Leaves, Refused, early, Beyond, left-reached, rules-new, Goes, goes}
 use Rattle.input.proofs.Calls.{Keeps, Roomy, roomy}
 
 -- ---- without a context a rule records nothing
@@ -151,11 +150,11 @@ module _ {t : Tables} (r : Reached t) (q : Rule) where
           none : t .header .context ≡ None → ⊥
           none d = let z : _≡_ {A = ℕ} 0 1 = cc in absurd (omega arith)
 
-  rule-accepted : {i : ℕ} {u : producers.Tables} → Accepted (t .nodes) q (forRule t) i u → Same u → recordable (t .header .context) (t .header .counts .provenance) ≡ true → Reached (fromRule u t)
+  rule-accepted : {i : ℕ} {u : producers.Tables} → Accepted (t .nodes) q (forRule t) i u → Same u → recordable (t .header .context) (t .header .counts .provenance) ≡ true → Goes t (fromRule u t)
   rule-accepted {i} {u} a same room =
       let h = a .is in
       let e : i ≡ t .header .counts .rules = a .next in
-      held-reached r (record { names = refl; constants = refl; order = refl; nodes = refl; count = rw h; keys = rw h; expressions = rw h; limits = rw h (a .spent .limits) })
+      goes r (record { names = refl; constants = refl; order = refl; nodes = refl; count = rw h; keys = rw h; expressions = rw h; limits = rw h (a .spent .limits) })
       (record {
         rises = rw h (r .rises);
         old = λ z s. rw h s;
@@ -184,7 +183,7 @@ module _ {t : Tables} (r : Reached t) (q : Rule) where
       }
 
   rule-refused : {e : Told} {u : producers.Tables} → kept.Refused (forRule t) e u → Same u → (u ≡ forRule t) ⊎ (recordable (t .header .context) (t .header .counts .provenance) ≡ true) → Refused t e (fromRule u t)
-  rule-refused {e} {u} d same room = record { reached = left-reached r leaves beyond; leaves = leaves; untouched = λ h. ap (λ (v : producers.Tables). fromRule v t) (d .early (early h)) }
+  rule-refused {e} {u} d same room = record { reached = left-reached r leaves beyond; leaves = leaves; stay = beyond .old; untouched = λ h. ap (λ (v : producers.Tables). fromRule v t) (d .early (early h)) }
     where
       leaves : Leaves t (fromRule u t)
       leaves =

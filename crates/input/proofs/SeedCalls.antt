@@ -23,7 +23,7 @@ use Rattle.seeds.proofs.KeptPredicate.{PredicateTaken, PredicateRefused, predic
 use Rattle.input.specs.Input.{Tables, done, id, forPredicate, fromPredicate, forValue, fromValue, forInterval, fromInterval, call}
 use Rattle.input.specs.Input as input
 use Rattle.input.proofs.Reached.{Reached}
-use Rattle.input.proofs.Left.{on-ends, Steady, Leaves, Refused, early, Beyond, beyond-none, Held, Rest, held-reached, rules-more, laid-new, left-reached, number-known}
+use Rattle.input.proofs.Left.{on-ends, Steady, Leaves, Refused, early, Beyond, beyond-none, Held, Rest, rules-more, laid-new, left-reached, number-known, Goes, goes}
 use Rattle.input.proofs.Calls.{Keeps}
 
 -- ---- the header in the words of the seeds
@@ -52,10 +52,10 @@ steady-quiet q =
 -- ---- `predicate`
 
 module _ {t : Tables} (r : Reached t) (arity : ℕ) where
-  predicate-accepted : {i : ℕ} {u : store.Tables} → PredicateTaken (t .constants) arity i (forPredicate t) u → Reached (fromPredicate u t)
+  predicate-accepted : {i : ℕ} {u : store.Tables} → PredicateTaken (t .constants) arity i (forPredicate t) u → Goes t (fromPredicate u t)
   predicate-accepted {i} {u} a =
       let h = a .header in
-      held-reached r (record { names = refl; constants = refl; order = refl; nodes = refl; count = rw h; keys = rw h; expressions = rw h; limits = rw h }) (beyond-none r refl refl (rw h) (rw h))
+      goes r (record { names = refl; constants = refl; order = refl; nodes = refl; count = rw h; keys = rw h; expressions = rw h; limits = rw h }) (beyond-none r refl refl (rw h) (rw h))
       record {
         predicates = rw (a .rows) (length-sets (t .predicates) (2 * t .header .counts .predicates) (t .header .counts .positions ∷ arity ∷ []) ∙ r .sized .predicates);
         seeds = a .size ∙ r .sized .seeds;
@@ -73,6 +73,7 @@ module _ {t : Tables} (r : Reached t) (arity : ℕ) where
   predicate-refused {e} {u} d = record {
     reached = left-reached r leaves (beyond-none r refl refl (same-marks (d .quiet .beside)) (same-count (d .quiet .beside)));
     leaves = leaves;
+    stay = λ z h. rw (same-marks (d .quiet .beside)) h;
     untouched = λ h. ap (λ (v : store.Tables). fromPredicate v t) (d .whole (early h));
   }
     where
@@ -126,9 +127,9 @@ module _ {t : Tables} (r : Reached t) (a : ℕ) where
         few-records = l;
       }
 
-  value-accepted : (k : ℕ) {u : seeds.Tables} → ValueTaken (t .constants) a k (forValue t) u → Reached (fromValue u t)
+  value-accepted : (k : ℕ) {u : seeds.Tables} → ValueTaken (t .constants) a k (forValue t) u → Goes t (fromValue u t)
   value-accepted k {u} v =
-      held-reached r (held-beside (v .beside) refl refl refl refl)
+      goes r (held-beside (v .beside) refl refl refl refl)
       (value-beyond (v .beside) (records-size a (t .header .context) _ _ (t .records) (u .records) (inr (v .noted))) (v .fits (r .counted .provenance)))
       (rest-beside (v .beside) r refl refl refl (v .size) (v .standing))
 
@@ -136,6 +137,7 @@ module _ {t : Tables} (r : Reached t) (a : ℕ) where
   value-refused {e} {u} d = record {
     reached = left-reached r leaves (value-beyond (d .quiet .beside) (records-size a (t .header .context) _ _ (t .records) (u .records) (d .noted)) (d .fits (r .counted .provenance)));
     leaves = leaves;
+    stay = λ z h. rw (same-marks (d .quiet .beside)) h;
     untouched = λ h. ap (λ (v : seeds.Tables). fromValue v t) (d .whole (early h));
   }
     where
@@ -157,9 +159,9 @@ module _ {t : Tables} (r : Reached t) (a : ℕ) (low high : ℤ) where
       length (u .records) ≡ length (t .records) → u .header .counts .provenance ≤ 1024 → Beyond t (fromInterval u t)
   interval-beyond m f z l = record { rises = m .rises; old = m .old; marks = m .size; few-marks = f; records = z; few-records = l }
 
-  interval-accepted : {u : seeds.IntervalTables} → IntervalTaken (t .constants) a low high (forInterval t) u → Reached (fromInterval u t)
+  interval-accepted : {u : seeds.IntervalTables} → IntervalTaken (t .constants) a low high (forInterval t) u → Goes t (fromInterval u t)
   interval-accepted {u} v =
-      held-reached r (held-beside (v .beside) refl refl refl refl)
+      goes r (held-beside (v .beside) refl refl refl refl)
       (interval-beyond (v .marked) (v .marks-fit (r .counted .thresholds)) (records-size a (t .header .context) _ _ (t .records) (u .records) (inr (v .noted))) (v .fits (r .counted .provenance)))
       (rest-beside (v .beside) r refl refl refl (v .size) (v .standing))
 
@@ -168,6 +170,7 @@ module _ {t : Tables} (r : Reached t) (a : ℕ) (low high : ℤ) where
     reached = left-reached r leaves
         (interval-beyond (d .marked) (d .marks-fit (r .counted .thresholds)) (records-size a (t .header .context) _ _ (t .records) (u .records) (d .noted)) (d .fits (r .counted .provenance)));
     leaves = leaves;
+    stay = d .marked .old;
     untouched = λ h. ap (λ (v : seeds.IntervalTables). fromInterval v t) (d .whole (early h));
   }
     where

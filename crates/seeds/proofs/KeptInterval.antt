@@ -19,6 +19,7 @@ use Rattle.limits.specs.declared.Refusal.the-variants.{Limit, Descending}
 use Rattle.limits.specs.Refusal.{Told, told}
 use Rattle.limits.specs.Metered.{Run, going, stopped, Metered, _>>_}
 use Rattle.limits.specs.Budget.{work}
+use Rattle.limits.proofs.ChargeLaws.{late}
 use Rattle.limits.proofs.Ends.{Ends, completes, stops, ends-as, ends-both, ends-test, ends-then, ends-through}
 use Rattle.interval.specs.declared.Interval.the-variants.{Bounded}
 use Rattle.lattice.specs.Lattice.{numeric}
@@ -34,7 +35,7 @@ use Rattle.thresholds.proofs.Sorted.{Rises, Has, Kept, Near, Surrounded, around
 use Rattle.provenance.specs.Provenance.{records, provenance, recordable}
 use Rattle.seeds.specs.Seed.{rows, seed, sizes, spacious, tables, inHeader, inRecords, ends, seedEnds, IntervalTables, intervalTables, inTables, inEnds, seedIntervalCall}
 use Rattle.seeds.proofs.Seeded.{regular-numeric}
-use Rattle.seeds.proofs.Beside.{Standing, Beside, beside-more, Quiet, quiet-more, quiet-wider, wider, same-count, same-marks, standing-quiet, same-bill, quiet-bill, spent-bill, late, charged-ends}
+use Rattle.seeds.proofs.Beside.{Standing, Beside, beside-more, Quiet, quiet-more, quiet-wider, wider, same-count, same-marks, standing-quiet, same-bill, quiet-bill, spent-bill, charged-ends}
 use Rattle.seeds.proofs.Kept.{seed-ends, Noted, noted-fits, Notes, Unnoted, provenance-ends}
 
 -- ---- thresholds

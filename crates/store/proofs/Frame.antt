@@ -8,7 +8,7 @@ use Rattle.limits.specs.declared.Budget.{Budget}
 use Rattle.limits.specs.declared.Charged.{Charged}
 use Rattle.limits.specs.declared.Charged.the-variants.{Paid, Stopped}
 use Rattle.limits.specs.declared.Refusal.the-variants.{Limit}
-use Rattle.limits.specs.Refusal.{told}
+use Rattle.limits.specs.Refusal.{Told, told}
 use Rattle.limits.specs.Charge.{chargeOf}
 use Rattle.limits.specs.Records.{countOf, limitOf}
 use Rattle.limits.specs.Metered.{Run, going, stopped, Metered, _>>_, through, mapped}
