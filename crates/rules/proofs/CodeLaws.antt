@@ -1,14 +1,18 @@
 -- What the writes of a rule leave, over plain variables.
-use Prim.Native.Nat.{ℕ, suc, _+_, _*_, _≤_, _<_}
+use Prim.Native.Nat.{ℕ, zero, suc, min, _+_, _*_, _≤_, _<_}
 use native.Mathlib.Omega.{arith}
+use native.Mathlib.Nat.{add-zero}
+use native.Mathlib.Decide.{decLe}
 use native.Mathlib.Numerals.{add-one, towards-suc}
 use mathlib.Core.Path.{_≡_, refl, sym, ap, _∙_}
 use mathlib.Core.List.{List, [], _∷_, _++_, map, map-append}
-use lib.ListN.{length, getD, take, drop, set, length-map, length-take, drop-of-length-le}
+use lib.ListN.{length, getD, take, drop, set, length-map, length-take, drop-of-length-le, List·getD-eq-default}
 use lib.Seq.{sets, drop-cons, getD-take}
 use Rattle.store.specs.declared.Context.{Context}
 use Rattle.rules.specs.declared.AggregateFunction.{AggregateFunction}
+use Rattle.rules.specs.declared.AggregateFunction.the-variants.{Count, Sum, SumPlus, Min, Max}
 use Rattle.rules.specs.declared.Relation.{Relation}
+use Rattle.rules.specs.declared.Relation.the-variants.{Lt, Le, Gt, Ge, Eq, Neq}
 use Rattle.rules.specs.declared.Binding.{Binding}
 use Rattle.rules.specs.declared.Binding.the-variants.{Positive, Assign, Range, Aggregate}
 use Rattle.rules.specs.declared.Guard.{Guard}
@@ -18,6 +22,7 @@ use Rattle.rules.specs.declared.GuardItem.{GuardItem}
 use Rattle.rules.specs.declared.Head.{Head}
 use Rattle.rules.specs.declared.Rule.{Rule}
 use Rattle.rules.specs.Rule.{functionNumber, relationNumber, bindingCells, guardCells, headCells, markOf, numberOf, fixedCells, bindingsOf, guardsOf, headsOf, flat, cell, row, putRule}
+use Rattle.rules.specs.Read.{functionOf, relationOf, bindingOf, guardOf, headOf, contextOf, slotsAt, contextAt, bindingCount, guardCount, headCount, bindingAt, guardAt, headAt}
 
 -- ---- cells one after another
 
@@ -128,3 +133,93 @@ pub rule-put : (d : List ℕ) (id : ℕ) (r : Rule) (c : Context) {l₁ l₂ l�
     l₃ ≡ sets l₂ (row * id + 134) (map cell (flat (λ i. guardCells (i .guard)) (guardsOf r))) → l ≡ sets l₃ (row * id + 262) (map cell (flat headCells (headsOf r))) → l ≡ putRule d id r c
 unfolding putRule
 rule-put d id r c p q s t = t ∙ rw (s, q, p)
+
+-- ---- and back: numbers that tell a case
+
+pub no-function : (n : ℕ) → (n ≡ 0 → ⊥) → (n ≡ 1 → ⊥) → (n ≡ 2 → ⊥) → (n ≡ 3 → ⊥) → Max ≡ functionOf n
+no-function n a b c d = sym (List·getD-eq-default (Count ∷ Sum ∷ SumPlus ∷ Min ∷ []) Max {n = n} (omega arith))
+
+pub no-relation : (n : ℕ) → (n ≡ 0 → ⊥) → (n ≡ 1 → ⊥) → (n ≡ 2 → ⊥) → (n ≡ 3 → ⊥) → (n ≡ 4 → ⊥) → Neq ≡ relationOf n
+no-relation n a b c d e = sym (List·getD-eq-default (Lt ∷ Le ∷ Gt ∷ Ge ∷ Eq ∷ []) Neq {n = n} (omega arith))
+
+pub as-aggregate : (k a b c : ℕ) {f : AggregateFunction} → k ≡ 3 → f ≡ functionOf b → Aggregate a f ≡ bindingOf k a b c
+as-aggregate k a b c e d = rw (e, d)
+
+-- kind 0 and one that does not exist
+pub as-positive : (k a b c : ℕ) → (k ≡ 1 → ⊥) → (k ≡ 2 → ⊥) → (k ≡ 3 → ⊥) → Positive a b ≡ bindingOf k a b c
+as-positive zero a b c x y z = refl
+as-positive (suc zero) a b c x y z = absurd (x refl)
+as-positive (suc (suc zero)) a b c x y z = absurd (y refl)
+as-positive (suc (suc (suc zero))) a b c x y z = absurd (z refl)
+as-positive (suc (suc (suc (suc k)))) a b c x y z = refl
+
+pub as-compare : (k a b c : ℕ) {x : Relation} → (k ≡ 1 → ⊥) → x ≡ relationOf b → Compare a x c ≡ guardOf k a b c
+as-compare zero a b c n d = rw d
+as-compare (suc zero) a b c n d = absurd (n refl)
+as-compare (suc (suc k)) a b c n d = rw d
+
+-- ---- a cell of a row, which begins at the table's end where it would begin beyond
+
+module _ (cells : List ℕ) where
+  -- places that are the same, or both beyond the table
+  beyond : {m n : ℕ} → length cells ≤ m → length cells ≤ n → getD cells m 0 ≡ getD cells n 0
+  beyond {m} {n} h g = List·getD-eq-default cells 0 {n = m} h ∙ sym (List·getD-eq-default cells 0 {n = n} g)
+
+  reached : (x a k : ℕ) → a ≡ min x (length cells) → getD cells (a + k) 0 ≡ getD cells (x + k) 0
+  reached x a k e = elim (decLe x (length cells)) [
+    | yes h ↦ let d : a ≡ x = omega arith in ap (λ (n : ℕ). getD cells (n + k) 0) d
+    | no h ↦ beyond (omega arith) (omega arith)
+  ]
+
+  item-reached : (x y a b o k : ℕ) → a ≡ min x (length cells) → b ≡ min y (length cells) → getD cells (a + o + b + k) 0 ≡ getD cells (x + o + y + k) 0
+  item-reached x y a b o k e f =
+      let p : a + o + b + k ≡ a + (o + b + k) = omega arith in
+      let q : x + (o + b + k) ≡ b + (x + o + k) = omega arith in
+      let s : y + (x + o + k) ≡ x + o + y + k = omega arith in
+      ap (λ (n : ℕ). getD cells n 0) p ∙ reached x a (o + b + k) e ∙ ap (λ (n : ℕ). getD cells n 0) q
+      ∙ reached y b (x + o + k) f ∙ ap (λ (n : ℕ). getD cells n 0) s
+
+  item-first : (x y a b o : ℕ) → a ≡ min x (length cells) → b ≡ min y (length cells) → getD cells (a + o + b) 0 ≡ getD cells (x + o + y) 0
+  item-first x y a b o e f =
+      ap (λ (n : ℕ). getD cells n 0) (sym (add-zero (a + o + b))) ∙ item-reached x y a b o 0 e f ∙ ap (λ (n : ℕ). getD cells n 0) (add-zero (x + o + y))
+
+  module _ (id at : ℕ) (start : at ≡ min (row * id) (length cells)) where
+    pub slots-read : {n : ℕ} → n ≡ getD cells at 0 → n ≡ slotsAt cells id
+    unfolding slotsAt
+    slots-read e =
+        e ∙ ap (λ (n : ℕ). getD cells n 0) (sym (add-zero at)) ∙ reached (row * id) at 0 start ∙ ap (λ (n : ℕ). getD cells n 0) (add-zero (row * id))
+
+    pub context-read : {m n : ℕ} {c : Context} → m ≡ getD cells (at + 1) 0 → n ≡ getD cells (at + 2) 0 → c ≡ contextOf m n → c ≡ contextAt cells id
+    unfolding contextAt
+    context-read p q e = e ∙ rw (p, q, reached (row * id) at 1 start, reached (row * id) at 2 start)
+
+    pub binding-count-read : {m n : ℕ} → m ≡ getD cells (at + 3) 0 → n ≡ min m 32 → n ≡ bindingCount cells id
+    unfolding bindingCount
+    binding-count-read p e = e ∙ rw (p, reached (row * id) at 3 start)
+
+    pub guard-count-read : {m n : ℕ} → m ≡ getD cells (at + 4) 0 → n ≡ min m 32 → n ≡ guardCount cells id
+    unfolding guardCount
+    guard-count-read p e = e ∙ rw (p, reached (row * id) at 4 start)
+
+    pub head-count-read : {m n : ℕ} → m ≡ getD cells (at + 5) 0 → n ≡ min m 16 → n ≡ headCount cells id
+    unfolding headCount
+    head-count-read p e = e ∙ rw (p, reached (row * id) at 5 start)
+
+    module _ (j b : ℕ) where
+      pub binding-read : {k l m n : ℕ} {x : Binding} → b ≡ min (4 * j) (length cells) → k ≡ getD cells (at + 6 + b) 0 → l ≡ getD cells (at + 6 + b + 1) 0 →
+          m ≡ getD cells (at + 6 + b + 2) 0 → n ≡ getD cells (at + 6 + b + 3) 0 → x ≡ bindingOf k l m n → x ≡ bindingAt cells id j
+      unfolding bindingAt
+      binding-read f p q r s e =
+          let c = item-reached (row * id) (4 * j) at b 6 in
+          e ∙ rw (p, q, r, s, item-first (row * id) (4 * j) at b 6 start f, c 1 start f, c 2 start f, c 3 start f)
+
+      pub guard-read : {k l m n : ℕ} {x : Guard} → b ≡ min (4 * j) (length cells) → k ≡ getD cells (at + 134 + b) 0 → l ≡ getD cells (at + 134 + b + 1) 0 →
+          m ≡ getD cells (at + 134 + b + 2) 0 → n ≡ getD cells (at + 134 + b + 3) 0 → x ≡ guardOf k l m n → x ≡ guardAt cells id j
+      unfolding guardAt
+      guard-read f p q r s e =
+          let c = item-reached (row * id) (4 * j) at b 134 in
+          e ∙ rw (p, q, r, s, item-first (row * id) (4 * j) at b 134 start f, c 1 start f, c 2 start f, c 3 start f)
+
+      pub head-read : {k l : ℕ} → b ≡ min (2 * j) (length cells) → k ≡ getD cells (at + 262 + b) 0 → l ≡ getD cells (at + 262 + b + 1) 0 → headOf k l ≡ headAt cells id j
+      unfolding headAt
+      head-read f p q = rw (p, q, item-first (row * id) (2 * j) at b 262 start f, item-reached (row * id) (2 * j) at b 262 1 start f)

@@ -1,11 +1,12 @@
-//! Rules (numeric.rs) and their rows in a lent table.
+//! Rules (numeric.rs) and their rows in a lent table. Cells beyond the table read as 0; any contents read as a rule.
 use store::Context;
 ghost use mathlib.Core.Path.{_≡_};
 ghost use mathlib.Core.List.{[], _∷_, map};
-ghost use Prim.Native.Nat.{_+_, _*_, _≤_, _<_};
+ghost use Prim.Native.Nat.{min, _+_, _*_, _≤_, _<_};
 ghost use lib.ListN.{set, take};
 ghost use lib.Seq.{sets};
-ghost use Rattle.rules.specs.Rule.{functionNumber, relationNumber, bindingCells, guardCells, headCells, markOf, numberOf, fixedCells, flat, cell, putRule};
+ghost use Rattle.rules.specs.Rule.{functionNumber, relationNumber, bindingCells, guardCells, headCells, markOf, numberOf, fixedCells, flat, cell, row, putRule};
+ghost use Rattle.rules.specs.Read.{functionOf, relationOf, bindingOf, guardOf, headOf, contextOf, slotsAt, contextAt, bindingCount, guardCount, headCount, bindingAt, guardAt, headAt};
 
 pub enum AggregateFunction {
     Count,
@@ -251,4 +252,209 @@ pub fn put_rule(cells: &mut [u32], id: usize, rule: Rule, context: Context)
     put_bindings(cells, at + 6, bindings, lengths.bindings as usize);
     put_guards(cells, at + 134, guards, lengths.guards as usize);
     put_heads(cells, at + 262, heads, lengths.heads as usize);
+}
+
+// Where a row begins. All rows beyond the table begin at its end.
+fn start(len: usize, id: usize) -> usize
+    ensures { λ r. ⌜ r ≡ min (row * id) len ⌝ }
+{
+    if len / ROW < id {
+        return len;
+    }
+    ROW * id
+}
+
+// How far behind the first of its kind the j-th item stands, of four cells each; beyond the table, no further than its length.
+fn fours(len: usize, j: usize) -> usize
+    ensures { λ r. ⌜ r ≡ min (4 * j) len ⌝ }
+{
+    if len / 4 < j {
+        return len;
+    }
+    4 * j
+}
+
+// The same, of two cells each.
+fn twos(len: usize, j: usize) -> usize
+    ensures { λ r. ⌜ r ≡ min (2 * j) len ⌝ }
+{
+    if len / 2 < j {
+        return len;
+    }
+    2 * j
+}
+
+fn function_of(number: u32) -> AggregateFunction
+    ensures { λ r. ⌜ r ≡ functionOf number ⌝ }
+{
+    if number == 0 {
+        return AggregateFunction::Count;
+    }
+    if number == 1 {
+        return AggregateFunction::Sum;
+    }
+    if number == 2 {
+        return AggregateFunction::SumPlus;
+    }
+    if number == 3 {
+        return AggregateFunction::Min;
+    }
+    AggregateFunction::Max
+}
+
+fn relation_of(number: u32) -> Relation
+    ensures { λ r. ⌜ r ≡ relationOf number ⌝ }
+{
+    if number == 0 {
+        return Relation::Lt;
+    }
+    if number == 1 {
+        return Relation::Le;
+    }
+    if number == 2 {
+        return Relation::Gt;
+    }
+    if number == 3 {
+        return Relation::Ge;
+    }
+    if number == 4 {
+        return Relation::Eq;
+    }
+    Relation::Neq
+}
+
+// A kind that does not exist reads as the first.
+fn binding_of(kind: u32, a: u32, b: u32, c: u32) -> Binding
+    ensures { λ r. ⌜ r ≡ bindingOf kind a b c ⌝ }
+{
+    let slot = a as u64;
+    if kind == 1 {
+        return Binding::Assign {
+            slot,
+            value: b as u64,
+        };
+    }
+    if kind == 2 {
+        return Binding::Range {
+            slot,
+            low: b as u64,
+            high: c as u64,
+        };
+    }
+    if kind == 3 {
+        return Binding::Aggregate {
+            slot,
+            function: function_of(b),
+        };
+    }
+    Binding::Positive {
+        slot,
+        argument: b as u64,
+    }
+}
+
+fn guard_of(kind: u32, a: u32, b: u32, c: u32) -> Guard
+    ensures { λ r. ⌜ r ≡ guardOf kind a b c ⌝ }
+{
+    if kind == 1 {
+        return Guard::Membership {
+            slot: a as u64,
+            low: b as u64,
+            high: c as u64,
+        };
+    }
+    Guard::Compare {
+        left: a as u64,
+        relation: relation_of(b),
+        right: c as u64,
+    }
+}
+
+fn context_of(mark: u32, number: u32) -> Context
+    ensures { λ r. ⌜ r ≡ contextOf mark number ⌝ }
+{
+    if mark == 0 {
+        return Context::None;
+    }
+    Context::Some(number)
+}
+
+// A count, or what a row has room for.
+fn at_most(count: u32, room: u32) -> usize
+    ensures { λ r. ⌜ r ≡ min count room ⌝ }
+{
+    if room < count {
+        return room as usize;
+    }
+    count as usize
+}
+
+pub fn slots_at(cells: &[u32], id: usize) -> u64
+    ensures { λ r. ⌜ r ≡ slotsAt (now (cells .entry)) id ⌝ }
+{
+    let at = start(cells.len(), id);
+    cells::cell_at(cells, at) as u64
+}
+
+pub fn context_at(cells: &[u32], id: usize) -> Context
+    ensures { λ r. ⌜ r ≡ contextAt (now (cells .entry)) id ⌝ }
+{
+    let at = start(cells.len(), id);
+    context_of(cells::cell_at(cells, at + 1), cells::cell_at(cells, at + 2))
+}
+
+pub fn binding_count(cells: &[u32], id: usize) -> usize
+    ensures { λ r. ⌜ r ≡ bindingCount (now (cells .entry)) id ⌝ }
+{
+    let at = start(cells.len(), id);
+    at_most(cells::cell_at(cells, at + 3), 32)
+}
+
+pub fn guard_count(cells: &[u32], id: usize) -> usize
+    ensures { λ r. ⌜ r ≡ guardCount (now (cells .entry)) id ⌝ }
+{
+    let at = start(cells.len(), id);
+    at_most(cells::cell_at(cells, at + 4), 32)
+}
+
+pub fn head_count(cells: &[u32], id: usize) -> usize
+    ensures { λ r. ⌜ r ≡ headCount (now (cells .entry)) id ⌝ }
+{
+    let at = start(cells.len(), id);
+    at_most(cells::cell_at(cells, at + 5), 16)
+}
+
+// The j-th binding, guard and head; one beyond its count is what stands there.
+pub fn binding_at(cells: &[u32], id: usize, j: usize) -> Binding
+    ensures { λ r. ⌜ r ≡ bindingAt (now (cells .entry)) id j ⌝ }
+{
+    let at = start(cells.len(), id) + 6 + fours(cells.len(), j);
+    binding_of(
+        cells::cell_at(cells, at),
+        cells::cell_at(cells, at + 1),
+        cells::cell_at(cells, at + 2),
+        cells::cell_at(cells, at + 3),
+    )
+}
+
+pub fn guard_at(cells: &[u32], id: usize, j: usize) -> Guard
+    ensures { λ r. ⌜ r ≡ guardAt (now (cells .entry)) id j ⌝ }
+{
+    let at = start(cells.len(), id) + 134 + fours(cells.len(), j);
+    guard_of(
+        cells::cell_at(cells, at),
+        cells::cell_at(cells, at + 1),
+        cells::cell_at(cells, at + 2),
+        cells::cell_at(cells, at + 3),
+    )
+}
+
+pub fn head_at(cells: &[u32], id: usize, j: usize) -> Head
+    ensures { λ r. ⌜ r ≡ headAt (now (cells .entry)) id j ⌝ }
+{
+    let at = start(cells.len(), id) + 262 + twos(cells.len(), j);
+    Head {
+        argument: cells::cell_at(cells, at) as u64,
+        value: cells::cell_at(cells, at + 1) as u64,
+    }
 }
