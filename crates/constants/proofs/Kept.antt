@@ -23,9 +23,10 @@ use Rattle.limits.proofs.Ends.{Ends, completes, stops, ends-test, ends-as, ends
 use Rattle.search.specs.Seek.{Place, found, absent}
 use Rattle.search.proofs.Complete as search
 use Rattle.thresholds.specs.Thresholds.{Entry, entry, around}
-use Rattle.thresholds.proofs.Outcomes.{live-seek}
+use Rattle.search.proofs.Live.{seek-lives}
 use Rattle.thresholds.proofs.Outcomes as outcomes
 use Rattle.thresholds.proofs.Sorted.{Rises, Kept, Near, Surrounded, around-keeps}
+use Rattle.lattice.specs.Constants.{Retained}
 use Rattle.keys.specs.Key.{Key, number, name, kindAt, payloadAt, keyAt, putCells, putName, probe, seekKey}
 use Rattle.keys.proofs.CodecLaws.{kind-back}
 use Rattle.keys.proofs.KeyOrder.{total-keys}
@@ -36,7 +37,7 @@ use Rattle.store.specs.Calls.{open?, charged, Marks, marks, entering}
 use Rattle.store.proofs.Frame.{spent-none, Spends, spends-work, spends-links, spends-bytes, spends-then, spends-metered, Charging, charging-more, Marking, ending-ends, entering-left, Limited, limited, pays}
 use Rattle.constants.specs.Constant.{bytesOf, retains, classify, KeyTables, keyTables, kindOf, payloadOf, addKey, addLarge, cost, settle, keep, abandon, retain, Tables, tables, inMarks, inKeys, inHeader, sizes, spacious, constantCall}
 use Rattle.constants.proofs.CodeLaws.{sizes-yes, room-yes}
-use Rattle.constants.proofs.Keyed.{Proper, Retained, Keyed, keyed-large, keyed-key, key-back, old-kind, old-payload, old-key, proper-bytes, retained-new, one-id}
+use Rattle.constants.proofs.Keyed.{Proper, Keyed, keyed-large, keyed-key, key-back, old-kind, old-payload, old-key, proper-bytes, retained-new, one-id}
 use Rattle.constants.proofs.Steps.{Besides, besides-of, besides-none, besides-more, besides-charge, charge-counts, besides-marks, marks-constants, marks-keys}
 
 -- ---- the thresholds of a key
@@ -229,7 +230,7 @@ Sought k t = search.Ends (probe (t .names) (t .constants) (t .order) k) (t .head
 sought : (k : Key) (t : KeyTables) → KeyedIn t →
     Ends (λ p s. Charging (t .header) s × Sought k t p) (λ e s. Limited e × Charging (t .header) s) (charged (metered (seekKey (t .names) (t .constants) (t .order) (t .header .counts .keys) k)) (t .header))
 unfolding seekKey
-sought k t w = ends-as (ends-both (pays (spends-metered (live-seek _ _ _ _)) (t .header)) (with-value _ (value .at (t .header)))) (λ p s h. h) (λ e s h. h .0)
+sought k t w = ends-as (ends-both (pays (spends-metered (seek-lives _ _ _ _)) (t .header)) (with-value _ (value .at (t .header)))) (λ p s h. h) (λ e s h. h .0)
   where
     value : Ensures (Sought k t) (charged (metered (seekKey (t .names) (t .constants) (t .order) (t .header .counts .keys) k)))
     value = by-through _ _ _ _ _ (by-through _ _ _ _ _ (by-through _ _ _ _ _ (keys.search-complete (t .names) (t .constants) (t .order) (t .header .counts .keys) k (w .sorted))))

@@ -4,7 +4,7 @@ use Prim.Native.Nat.{ℕ, zero, suc, _+_, _-_, _*_, _≤_, _<_}
 use native.Mathlib.Omega.{arith}
 use native.Mathlib.Decide.{decLt}
 use mathlib.Core.Path.{_≡_, refl, sym, ap, _∙_}
-use mathlib.Core.Logic.{_⊎_, inl, inr}
+use mathlib.Core.Logic.{inl, inr}
 use mathlib.Core.Bool.{Bool, true, false, cond}
 use mathlib.Core.List.{List, []}
 use lib.Dec.{leb, ltb}
@@ -26,6 +26,7 @@ use Rattle.search.specs.declared.Ordering.the-variants.{Less, Equal, Greater}
 use Rattle.search.specs.Seek.{Place, found, absent, by, middle, seek}
 use Rattle.search.proofs.Total.{alike}
 use Rattle.search.proofs.Complete as search
+use Rattle.lattice.specs.Constants.{Retained}
 use Rattle.keys.specs.Key.{Key, number, name, compareKeys, kindAt, payloadAt, keyAt, putCells, putName, probe, seekKey}
 use Rattle.keys.proofs.CodecLaws.{number-back, name-back, kind-back, payload-back, kind-kept, payload-kept, cells-kept, name-kept}
 use Rattle.keys.proofs.KeyOrder.{total-keys, Ordered, key-found, insert-keeps, write-keeps}
@@ -35,10 +36,6 @@ use Rattle.constants.specs.Constant.{bytesOf, kindOf, payloadOf}
 abbrev pub Proper : Key → Type 0
 Proper (number v) = Number v
 Proper (name s) = length s ≤ 64
-
--- the constant's key is kept: of a number, or of a name
-abbrev pub Retained : List ℕ → ℕ → Type 0
-Retained cells id = (kindAt cells id ≡ 1) ⊎ (kindAt cells id ≡ 2)
 
 -- the id stands at one of the first m places of the key order
 abbrev pub Standing : List ℕ → ℕ → ℕ → Type 0

@@ -18,10 +18,10 @@ use Rattle.limits.specs.declared.Refusal.the-variants.{Closed, Shape, Full, Lim
 use Rattle.limits.specs.Charge.{chargeOf}
 use Rattle.limits.specs.Refusal.{Told, told}
 use Rattle.limits.specs.Records.{withCount, withStatistics}
-use Rattle.limits.specs.Metered.{Run, going, stopped, Metered, pure, zoom, after, _>>=_, _>>_, mapped, through}
+use Rattle.limits.specs.Metered.{Run, going, stopped, Metered, pure, after, _>>=_, _>>_, mapped, through}
 use Rattle.limits.specs.Meter.{meter, meterOf, metered}
 use Rattle.limits.specs.Budget.{work, links}
-use Rattle.limits.proofs.Monad.{bind-on, then-on, then-stop}
+use Rattle.limits.proofs.Monad.{bind-on, then-on, then-stop, through-on, through-stop}
 use Rattle.limits.proofs.CodeLaws.{work-paid, work-stopped}
 use Rattle.search.specs.Seek.{absent}
 use Rattle.search.specs.declared.Sought.{Sought}
@@ -120,17 +120,6 @@ module _ (nodes : List ℕ) (count : ℕ) (v : Expression) (w mw : ℕ) {t : Boo
   unfolding older pure
   older-none y = record { at = λ en me. rw (← h, y) }
 
--- ---- a step on the header, with the table beside it
-
-module _ {A : Type 0} (m : Metered Told Store A) (s : Store) {nodes : List ℕ} where
-  beside-on : {a : A} {u : Store} → going a u ≡ m s → going a (tables u nodes) ≡ zoom (λ (t : Tables). t .header) (λ u t. tables u (t .nodes)) m (tables s nodes)
-  unfolding through mapped
-  beside-on h = rw (← h)
-
-  beside-stop : {e : Told} {u : Store} → stopped e u ≡ m s → stopped e (tables u nodes) ≡ zoom (λ (t : Tables). t .header) (λ u t. tables u (t .nodes)) m (tables s nodes)
-  unfolding through mapped
-  beside-stop h = rw (← h)
-
 -- ---- an answer of a charge, by its case, as what the monad gives
 
 module _ {x : Done} {y : Run Told Store (Unit {0})} (h : done x ≡ y) {s : Store} where
@@ -172,14 +161,14 @@ module _ (e : Expression) (s : Store) (nodes : List ℕ) {r : Sought}
 
       pub share-unpaid : {q : Refusal} {v : Store} → stopped (told q) v ≡ billed (links 1) u → Shares e s nodes (answer.Refused q v) nodes
       unfolding share settle
-      share-unpaid d = record { is = bind-on _ _ (settle e) sought-on (then-stop _ _ _ (beside-stop (billed (links 1)) u d)) }
+      share-unpaid d = record { is = bind-on _ _ (settle e) sought-on (then-stop _ _ _ (through-stop _ _ _ _ (billed (links 1)) (tables u nodes) d)) }
 
       pub share-new : {v t : Store} {d : ℕ} {n : Node} {nodes′ : List ℕ} → going tt v ≡ billed (links 1) u → d ≡ deepest nodes (s .counts .expressions) e → n ≡ nodeOf e →
           nodes′ ≡ putNode nodes (s .counts .expressions) n (1 + d) → t ≡ withExpressions (v .counts .expressions + 1) v → Shares e s nodes (Id (s .counts .expressions) t) nodes′
       unfolding share settle
       share-new {v} g ed en z f =
           let c : v .counts ≡ s .counts = charged-counts (links 1) u g ∙ rw l in
-          record { is = bind-on _ _ (settle e) sought-on (then-on _ _ _ (beside-on (billed (links 1)) u g) (rw (f, z, en, ed, c))) }
+          record { is = bind-on _ _ (settle e) sought-on (then-on _ _ _ (through-on _ _ _ _ (billed (links 1)) (tables u nodes) g) (rw (f, z, en, ed, c))) }
 
 -- ---- the call
 
@@ -216,7 +205,7 @@ module _ (e : Expression) (s : Store) (nodes : List ℕ) where
             tested = rw (eq-eqb (length nodes) (row * 1024) n, ← a, y, ← h, q, ← g, le-leb (1 + d) 64 (omega arith), lt-ltb (s .counts .expressions) 1024 f)
 
             pub expression-work : {r : Told} {u : Store} → stopped r u ≡ billed (work 1) s → stopped r (tables u nodes) ≡ expressionCall e (tables s nodes)
-            expression-work p = rw tested (then-stop _ _ _ (beside-stop (billed (work 1)) s p))
+            expression-work p = rw tested (then-stop _ _ _ (through-stop _ _ _ _ (billed (work 1)) (tables s nodes) p))
 
             module _ {u : Store} (p : going tt u ≡ billed (work 1) s) where
               same-counts : u .counts ≡ s .counts
@@ -230,7 +219,7 @@ module _ (e : Expression) (s : Store) (nodes : List ℕ) where
                 now-valid = w ∙ ap (λ (n : Counts). valid n e) (sym same-counts)
 
                 pub expression-missing : v ≡ false → stopped (told Missing) (tables u nodes) ≡ expressionCall e (tables s nodes)
-                expression-missing z = rw tested (then-on _ _ _ (beside-on (billed (work 1)) s p) (rw (← now-valid, z)))
+                expression-missing z = rw tested (then-on _ _ _ (through-on _ _ _ _ (billed (work 1)) (tables s nodes) p) (rw (← now-valid, z)))
 
                 pub expression-shared : v ≡ true → {x : Answer} {nodes′ : List ℕ} → Shares e u nodes x nodes′ → onTables x nodes′ ≡ expressionCall e (tables s nodes)
-                expression-shared z r = rw tested (then-on _ _ _ (beside-on (billed (work 1)) s p) (rw (← now-valid, z) (r .is)))
+                expression-shared z r = rw tested (then-on _ _ _ (through-on _ _ _ _ (billed (work 1)) (tables s nodes) p) (rw (← now-valid, z) (r .is)))

@@ -29,7 +29,8 @@ use Rattle.store.specs.declared.Phase.the-variants.{Open, Absent}
 use Rattle.store.specs.declared.Counts.{Counts}
 use Rattle.store.specs.Store.{empty, freshOf}
 use Rattle.store.specs.Calls.{firstOf, arityOf, open?, argumentCall}
-use Rattle.constants.proofs.Keyed.{Retained, Keyed, keyed-none}
+use Rattle.lattice.specs.Constants.{Retained}
+use Rattle.constants.proofs.Keyed.{Keyed, keyed-none}
 use Rattle.constants.proofs.Keyed as keyed
 use Rattle.constants.proofs.Kept.{Surrounds}
 use Rattle.expressions.proofs.Nested.{Nested, nested-none}

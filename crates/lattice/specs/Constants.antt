@@ -1,5 +1,7 @@
 -- The constants as the analysis reads them: two cells each, the kind and a number's cell. A cell beyond the table reads as 0.
 use Prim.Native.Nat.{ℕ, _+_, _*_}
+use mathlib.Core.Path.{_≡_}
+use mathlib.Core.Logic.{_⊎_}
 use mathlib.Core.Bool.{cond}
 use mathlib.Core.List.{List}
 use lib.Dec.{eqb}
@@ -14,3 +16,7 @@ constantOf kind cell = cond (eqb kind 1) (Number (ofCell cell)) (cond (eqb kind 
 
 abbrev pub constantAt : List ℕ → ℕ → Constant
 constantAt cells id = constantOf (getD cells (2 * id) 0) (getD cells (2 * id + 1) 0)
+
+-- the constant's key is kept: it is a number or a retained name
+abbrev pub Retained : List ℕ → ℕ → Type 0
+Retained cells id = (getD cells (2 * id) 0 ≡ 1) ⊎ (getD cells (2 * id) 0 ≡ 2)

@@ -5,14 +5,13 @@ use mathlib.Core.Path.{_≡_, refl, sym}
 use mathlib.Core.Bool.{Bool, true, false, cond}
 use mathlib.Core.List.{List, [], _∷_, _++_}
 use mathlib.Core.Option.{Option, some, none}
-use lib.Dec.{ltb, leb, eqb}
+use lib.Dec.{leb, eqb}
 use lib.ListN.{length, length-append}
 use Rattle.limits.specs.Metered.{pure}
 use Rattle.limits.specs.Meter.{work, holding}
 use Rattle.limits.proofs.Live.{Lives, live-pure, live-test, live-bind, live-then, live-work, live-retain, live-release, live-holding, live-as, live-beside}
-use Rattle.search.specs.declared.Ordering.{Ordering}
-use Rattle.search.specs.declared.Ordering.the-variants.{Less, Equal, Greater}
-use Rattle.search.specs.Seek.{found, absent, found?, by, middle, seek}
+use Rattle.search.proofs.Live.{seek-lives}
+use Rattle.search.specs.Seek.{found, found?}
 use Rattle.lists.specs.Lists.{push, retainAll, takeOne, collect, permitsIn, permits, sameIds}
 
 -- the entries of a list, if there is one
@@ -48,20 +47,6 @@ collect-lives width kept (i ∷ l) =
         Lives (cond t (length kept + 1) 0) listSize (cond t (collect width (kept ++ (i ∷ [])) l) (pure none))
     by-fit true h = let e : length kept + 1 ≡ length (kept ++ (i ∷ [])) = sym (length-append kept (i ∷ [])) in rw e h
     by-fit false h = live-pure 0 none refl
-
-seek-lives : (probe : ℕ → Ordering) (turns low high : ℕ) → Lives 0 (λ _. 0) (seek probe turns low high)
-unfolding seek
-seek-lives probe zero low high = live-pure 0 (absent low) refl
-seek-lives probe (suc f) low high =
-    live-test (ltb low high)
-    (λ _. live-then (live-work 1) (turn (probe (middle low high)) (seek-lives probe f (middle low high + 1) high) (seek-lives probe f low (middle low high))))
-    (λ _. live-pure 0 (absent low) refl)
-  where
-    turn : (o : Ordering) → Lives 0 (λ _. 0) (seek probe f (middle low high + 1) high) → Lives 0 (λ _. 0) (seek probe f low (middle low high)) →
-        Lives 0 (λ _. 0) (by o (seek probe f (middle low high + 1) high) (pure (found (middle low high))) (seek probe f low (middle low high)))
-    turn Less r l = r
-    turn Equal r l = live-pure 0 (found (middle low high)) refl
-    turn Greater r l = l
 
 pub permits-lives : (o : Option (List ℕ)) (id : ℕ) → Lives 0 (λ _. 0) (permits o id)
 unfolding permitsIn

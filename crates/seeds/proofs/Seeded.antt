@@ -35,7 +35,7 @@ use Rattle.lattice.specs.declared.Widening.the-variants.{SymbolSize, ValueWidth
 use Rattle.lattice.specs.declared.Reason.{Reason}
 use Rattle.lattice.specs.declared.Reason.the-variants.{None, Some}
 use Rattle.lattice.specs.Value.{Value, value}
-use Rattle.lattice.specs.Constants.{constantOf, constantAt}
+use Rattle.lattice.specs.Constants.{constantOf, constantAt, Retained}
 use Rattle.lattice.specs.Lattice.{bottom, numeric, retained, constant}
 use Rattle.lattice.proofs.Joins.{joinedList, joinedValue}
 use Rattle.rows.specs.Row.{row, valueAt, put}
@@ -45,10 +45,6 @@ use Rattle.store.specs.Calls.{bottoms}
 use Rattle.seeds.specs.Seed.{entriesOf, loses}
 
 -- ---- what a seed is
-
--- The constant is a number or a retained name: the cell of its kind, `kindAt` of keys, is 1 or 2.
-abbrev pub Retained : List ℕ → ℕ → Type 0
-Retained constants id = (getD constants (2 * id) 0 ≡ 1) ⊎ (getD constants (2 * id) 0 ≡ 2)
 
 -- a list, if there is one, has ids of retained constants among the first k alone
 abbrev pub Known : ℕ → List ℕ → Option (List ℕ) → Type 0

@@ -2,7 +2,7 @@
 use Prim.Native.Nat.{ℕ, _+_, _-_, _*_, _<_, _≤_}
 use native.Mathlib.Omega.{arith}
 use native.Mathlib.Numerals.{add-one}
-use mathlib.Core.Path.{_≡_, refl, sym, _∙_}
+use mathlib.Core.Path.{_≡_, refl, sym, ap, _∙_}
 use mathlib.Core.Bool.{Bool, true, false}
 use mathlib.Core.List.{List}
 use borrow.Author.Tests.{leb-true, leb-false, ltb-true, lt-ltb, le-ltb, le-leb, lt-leb, eq-eqb, ne-eqb}
@@ -16,11 +16,11 @@ use Rattle.limits.specs.declared.Billed.{Billed}
 use Rattle.limits.specs.declared.Billed.the-variants.{Paid, Stopped}
 use Rattle.limits.specs.declared.Refusal.the-variants.{Closed, Shape, Full, Limit, Missing}
 use Rattle.limits.specs.declared.Refusal.{Refusal}
-use Rattle.limits.specs.Refusal.{Told, told}
+use Rattle.limits.specs.Refusal.{told}
 use Rattle.limits.specs.Records.{fresh}
-use Rattle.limits.specs.Metered.{Run, going, stopped, Metered, pure, after, _>>=_, _>>_, mapped, through}
+use Rattle.limits.specs.Metered.{going, stopped, Metered, pure, after, _>>=_, _>>_, mapped, through}
 use Rattle.limits.specs.Budget.{ran, work, predicates, positions}
-use Rattle.limits.proofs.Monad.{then-on, then-stop}
+use Rattle.limits.proofs.Monad.{then-on, then-stop, through-on, through-stop, came}
 use Rattle.thresholds.specs.Thresholds.{Entry, entry}
 use Rattle.integers.proofs.Tests.{and-left, and-right}
 use Rattle.lattice.specs.Value.{Value}
@@ -32,7 +32,7 @@ use Rattle.store.specs.declared.Store.{Store}
 use Rattle.store.specs.declared.Done.{Done}
 use Rattle.store.specs.declared.Done.the-variants.{Ok, Refused}
 use Rattle.store.specs.Store.{admits, withBudget, withContext, withThresholds, withPredicate, empty, freshOf}
-use Rattle.store.specs.Calls.{charged, marks, entering, declared, bottoms, roomFor, tables, inHeader, predicateCall, contextCall, workCall, firstOf, arityOf, argumentCall}
+use Rattle.store.specs.Calls.{charged, marks, entering, declared, bottoms, roomFor, tables, predicateCall, contextCall, workCall, firstOf, arityOf, argumentCall}
 use Rattle.store.specs.Answers.{done, onMarks}
 
 -- ---- a fresh store
@@ -168,33 +168,19 @@ room-yes p n arity q e =
 
 -- ---- a predicate
 
--- charges leave the counts of rows as they were
-pub charged-counts : (m : Metered Stop Budget (Unit {0})) (s : Store) {t : Store} → going tt t ≡ charged m s → t .counts ≡ s .counts
-unfolding through mapped
-charged-counts m s {t} = go (m (s .budget))
-  where
-    go : (x : Run Stop Budget (Unit {0})) → going tt t ≡ mapped (λ u. u) (λ u. u) (λ e. told (Limit e)) (mapped (λ b. withBudget b s) (λ b. withBudget b s) (λ e. e) x) → t .counts ≡ s .counts
-    go (going u b) h = let e : t ≡ withBudget b s = cc in rw e
-    go (stopped e b) h = let z : _≡_ {A = ℕ} 0 1 = cc in absurd (omega arith)
+-- a charge leaves a header with another budget, so the counts of rows and the context as they were
+module _ (m : Metered Stop Budget (Unit {0})) (s : Store) {t : Store} (h : going tt t ≡ charged m s) where
+  charged-budget : (b : Budget) × (t ≡ withBudget b s)
+  charged-budget =
+      let o = came (λ u. u) (λ _ u. u) (λ _ u. u) (λ e. told (Limit e)) _ s h in
+      let i = came (λ u. u .budget) (λ u b. withBudget b u) (λ u b. withBudget b u) (λ e. e) m s (o .from) in
+      (i .part, o .is ∙ i .is)
 
--- and the context
-pub charged-context : (m : Metered Stop Budget (Unit {0})) (s : Store) {t : Store} → going tt t ≡ charged m s → t .context ≡ s .context
-unfolding through mapped
-charged-context m s {t} = go (m (s .budget))
-  where
-    go : (x : Run Stop Budget (Unit {0})) → going tt t ≡ mapped (λ u. u) (λ u. u) (λ e. told (Limit e)) (mapped (λ b. withBudget b s) (λ b. withBudget b s) (λ e. e) x) → t .context ≡ s .context
-    go (going u b) h = let e : t ≡ withBudget b s = cc in rw e
-    go (stopped e b) h = let z : _≡_ {A = ℕ} 0 1 = cc in absurd (omega arith)
+  pub charged-counts : t .counts ≡ s .counts
+  charged-counts = ap (λ (u : Store). u .counts) (charged-budget .1)
 
--- a step on the header, with the tables beside it
-module _ (m : Metered Told Store (Unit {0})) (s : Store) {rows seeds : List ℕ} where
-  zoomed-on : {u : Store} → going tt u ≡ m s → going tt (tables u rows seeds) ≡ inHeader m (tables s rows seeds)
-  unfolding through mapped
-  zoomed-on h = rw (← h)
-
-  zoomed-stop : {e : Told} {u : Store} → stopped e u ≡ m s → stopped e (tables u rows seeds) ≡ inHeader m (tables s rows seeds)
-  unfolding through mapped
-  zoomed-stop h = rw (← h)
+  pub charged-context : t .context ≡ s .context
+  charged-context = ap (λ (u : Store). u .context) (charged-budget .1)
 
 module _ (arity : ℕ) (s : Store) (rows seeds : List ℕ) where
   pub predicate-rows : (length rows ≡ 128 → ⊥) → stopped (told Shape) (tables s rows seeds) ≡ predicateCall arity (tables s rows seeds)
@@ -219,14 +205,14 @@ module _ (arity : ℕ) (s : Store) (rows seeds : List ℕ) where
         module _ (y : f ≡ true) where
           pub predicate-work : (r : Refusal) {u : Store} → stopped (told r) u ≡ charged (work 1) s → stopped (told r) (tables u rows seeds) ≡ predicateCall arity (tables s rows seeds)
           unfolding predicateCall
-          predicate-work r p = rw (eq-eqb (length rows) 128 n, eq-eqb (length seeds) (row * 256) k, ← h, o, ← q, y) (then-stop _ _ _ (zoomed-stop (charged (work 1)) s p))
+          predicate-work r p = rw (eq-eqb (length rows) 128 n, eq-eqb (length seeds) (row * 256) k, ← h, o, ← q, y) (then-stop _ _ _ (through-stop _ _ _ _ (charged (work 1)) (tables s rows seeds) p))
 
           module _ {u : Store} (p : going tt u ≡ charged (work 1) s) where
             pub predicate-declare : (r : Refusal) {v : Store} → stopped (told r) v ≡ charged (declared arity) u → stopped (told r) (tables v rows seeds) ≡ predicateCall arity (tables s rows seeds)
             unfolding predicateCall
             predicate-declare r d =
                 rw (eq-eqb (length rows) 128 n, eq-eqb (length seeds) (row * 256) k, ← h, o, ← q, y)
-                (then-on _ _ _ (zoomed-on (charged (work 1)) s p) (then-stop _ _ _ (zoomed-stop (charged (declared arity)) u d)))
+                (then-on _ _ _ (through-on _ _ _ _ (charged (work 1)) (tables s rows seeds) p) (then-stop _ _ _ (through-stop _ _ _ _ (charged (declared arity)) (tables u rows seeds) d)))
 
             pub predicate-id : {v w : Store} {rows₁ rows₂ seeds′ : List ℕ} → going tt v ≡ charged (declared arity) u → w ≡ withPredicate arity v →
                 rows₁ ≡ set rows (2 * s .counts .predicates) (s .counts .positions) → rows₂ ≡ set rows₁ (2 * s .counts .predicates + 1) arity →
@@ -235,4 +221,4 @@ module _ (arity : ℕ) (s : Store) (rows seeds : List ℕ) where
             predicate-id {v} {w} {rows₁} {rows₂} {seeds′} d e r₁ r₂ g =
                 let c : v .counts ≡ s .counts = charged-counts (declared arity) u d ∙ charged-counts (work 1) s p in
                 rw (eq-eqb (length rows) 128 n, eq-eqb (length seeds) (row * 256) k, ← h, o, ← q, y)
-                (then-on _ _ _ (zoomed-on (charged (work 1)) s p) (then-on _ _ _ (zoomed-on (charged (declared arity)) u d) (rw (e, r₂, r₁, g, c, add-one (2 * s .counts .predicates)))))
+                (then-on _ _ _ (through-on _ _ _ _ (charged (work 1)) (tables s rows seeds) p) (then-on _ _ _ (through-on _ _ _ _ (charged (declared arity)) (tables u rows seeds) d) (rw (e, r₂, r₁, g, c, add-one (2 * s .counts .predicates)))))

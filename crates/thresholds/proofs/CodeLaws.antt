@@ -16,7 +16,6 @@ use Rattle.integers.proofs.OrderLaws.{lt-yes, lt-no, yes-number, too-low, too-h
 use Rattle.limits.specs.declared.Resource.the-variants.{Work}
 use Rattle.limits.specs.declared.Stop.{Stop}
 use Rattle.limits.specs.declared.Budget.{Budget}
-use Rattle.limits.specs.declared.Statistics.{Statistics}
 use Rattle.limits.specs.declared.Billed.{Billed}
 use Rattle.limits.specs.declared.Billed.the-variants as bill
 use Rattle.limits.specs.Records.{withCount, withStatistics}

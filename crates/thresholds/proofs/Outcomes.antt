@@ -1,9 +1,8 @@
 -- What `enter` leaves, in three ways: the number stood already, it is new, or a charge was refused. All else about it follows from these.
-use Prim.Native.Nat.{ℕ, zero, suc, _+_, _-_, _≤_, _<_}
+use Prim.Native.Nat.{ℕ, _+_, _-_, _≤_, _<_}
 use native.Mathlib.Omega.{arith}
 use mathlib.Core.Path.{_≡_, refl, sym, subst, _∙_}
 use mathlib.Core.Bool.{Bool, true, false, cond}
-use lib.Dec.{ltb}
 use lib.IntN.{ℤ}
 use Rattle.integers.specs.Order.{number?}
 use Rattle.integers.specs.Lists.{inserted}
@@ -17,12 +16,11 @@ use Rattle.limits.specs.Records.{countOf, limitOf}
 use Rattle.limits.specs.Metered.{Run, going, stopped, pure, after, _>>=_, _>>_, through, mapped}
 use Rattle.limits.specs.Budget.{charge, charged, links}
 use Rattle.limits.specs.Meter.{Meter, meterOf, withMeter}
-use Rattle.limits.specs.Meter as inner
 use Rattle.limits.proofs.Monad.{Holds, for-all}
-use Rattle.limits.proofs.Live.{LiveIn, Lives, live-pure, live-test, live-then, live-work}
+use Rattle.limits.proofs.Live.{LiveIn}
 use Rattle.search.specs.declared.Ordering.{Ordering}
-use Rattle.search.specs.declared.Ordering.the-variants.{Less, Equal, Greater}
-use Rattle.search.specs.Seek.{Place, found, absent, by, middle, seek}
+use Rattle.search.proofs.Live.{seek-lives}
+use Rattle.search.specs.Seek.{Place, found, absent, seek}
 use Rattle.search.proofs.Complete.{Rising, Ends, Within, search-ends, seek-within}
 use Rattle.thresholds.specs.Thresholds.{Entry, entry, against, seekNumber, cost, insert, settle, enter, enterNumber}
 
@@ -85,21 +83,6 @@ cost-charges n b = let x = chargeOf Work (countOf Work (b .statistics)) n (limit
         second h x (links-charges c x)
     go (stopped e c) h = h
 
--- ---- the search holds no entries
-
-live-by : (o : Ordering) {x y z : inner.Meter → Run Stop Meter Place} → Lives 0 (λ _. 0) x → Lives 0 (λ _. 0) y → Lives 0 (λ _. 0) z → Lives 0 (λ _. 0) (by o x y z)
-live-by Less f g h = f
-live-by Equal f g h = g
-live-by Greater f g h = h
-
-pub live-seek : (probe : ℕ → Ordering) (turns low high : ℕ) → Lives 0 (λ _. 0) (seek probe turns low high)
-unfolding seek
-live-seek probe zero low high = live-pure 0 (absent low) refl
-live-seek probe (suc f) low high =
-    live-test (ltb low high)
-    (λ _. live-then (live-work 1) (live-by (probe (middle low high)) (live-seek probe f (middle low high + 1) high) (live-pure 0 (found (middle low high)) refl) (live-seek probe f low (middle low high))))
-    (λ _. live-pure 0 (absent low) refl)
-
 -- ---- the three ways
 
 module _ (v : ℤ) (s : Entry) where
@@ -135,7 +118,7 @@ module _ (v : ℤ) (s : Entry) where
       searched (seek probe (s .count) 0 (s .count) (meterOf (s .budget)))
       (seek-within probe (s .count) 0 (s .count) (omega arith) .at (meterOf (s .budget)))
       (for-all {P = λ (r : Rising probe (s .count)) (p : Place). Ends probe (s .count) p} (λ r. search-ends probe (s .count) r (s .count) (omega arith)) .at (meterOf (s .budget)))
-      (live-seek probe (s .count) 0 (s .count) .at (s .budget .statistics .entries) (meterOf (s .budget)) (omega arith))
+      (seek-lives probe (s .count) 0 (s .count) .at (s .budget .statistics .entries) (meterOf (s .budget)) (omega arith))
 
   -- ---- at most one more
 
