@@ -1,14 +1,15 @@
--- Laws of lists that are not in the toolchain's library: strictly increasing lists, membership as a test, the elements that pass one.
-use Prim.Native.Nat.{ℕ, zero, suc, _<_, _≤_}
+-- Laws of lists that are not in the toolchain's library: strictly increasing lists, membership as a test, the elements that pass one, runs of
+-- elements.
+use Prim.Native.Nat.{ℕ, zero, suc, _+_, _<_, _≤_}
 use native.Mathlib.Omega.{arith}
-use mathlib.Core.Path.{_≡_, refl, sym, subst}
+use mathlib.Core.Path.{_≡_, refl, sym, ap, subst, _∙_}
 use mathlib.Core.Logic.{_↔_, _⊎_, inl, inr}
 use mathlib.Core.Bool.{Bool, true, false, cond, _||_}
-use mathlib.Core.List.{List, [], _∷_, List·Memᴰ, List·Memᴰ·head, List·Memᴰ·tail, List·Memᴰ·cases-cons}
+use mathlib.Core.List.{List, [], _∷_, map, List·Memᴰ, List·Memᴰ·head, List·Memᴰ·tail, List·Memᴰ·cases-cons}
 use borrow.Author.Tests.{ltb-true, ltb-false, eqb-true, eq-eqb}
 use lib.Dec.{ltb, eqb}
 use lib.ListN.{length, getD}
-use Rattle.integers.specs.Lists.{Above, Increasing, passing}
+use Rattle.integers.specs.Lists.{Above, Increasing, passing, from}
 
 -- ---- two natural numbers, one of three ways
 
@@ -143,3 +144,15 @@ module _ (p : ℕ → Bool) where
           go : (t : Bool) → List·Memᴰ n (passing p l) → List·Memᴰ n (cond t (x ∷ passing p l) (passing p l))
           go true r = List·Memᴰ·tail r
           go false r = r
+
+-- ---- what a function gives of one number after another
+
+module _ {A B : Type 0} (f : ℕ → B) (g : A → B) where
+  -- a function that gives at each place what g makes of the element there; z is what a list is asked for beyond its end
+  pub from-list : (l : List A) (j : ℕ) → ((z : A) (i : ℕ) → i < length l → f (j + i) ≡ g (getD l i z)) → from f j (length l) ≡ map g l
+  unfolding from
+  from-list [] j h = refl
+  from-list (a ∷ l) j h =
+      let e : f j ≡ g a = ap f (omega arith) ∙ h a 0 (omega arith) in
+      let r = from-list l (j + 1) (λ z i k. ap f (omega arith) ∙ h z (suc i) (omega arith)) in
+      rw (e, r)

@@ -46,6 +46,9 @@ module _ {A : Type 0} where
     | no h ↦ drop-of-length-le l {i = min b (length l)} (omega arith) ∙ sym (drop-of-length-le l {i = b} (omega arith))
   ]
 
+  pub getD-min : (z : A) (l : List A) (b k : ℕ) → getD l (min b (length l) + k) z ≡ getD l (b + k) z
+  getD-min z l b k = sym (getD-drop (min b (length l)) l k z) ∙ ap (λ (m : List A). getD m k z) (drop-min l b) ∙ getD-drop b l k z
+
   pub take-min : (l : List A) (n : ℕ) → take (min n (length l)) l ≡ take n l
   take-min l n = elim (decLe n (length l)) [
     | yes h ↦ let e : min n (length l) ≡ n = omega arith in ap (λ (m : ℕ). take m l) e
@@ -105,3 +108,12 @@ pub all-getD : {A : Type 0} (P : A → Type 0) (l : List A) (i : ℕ) (z : A) �
 all-getD P [] i z h p = p
 all-getD P (a ∷ l) zero z h p = h .0
 all-getD P (a ∷ l) (suc i) z h p = all-getD P l i z (h .1) p
+
+all-set : {A : Type 0} (P : A → Type 0) (l : List A) (i : ℕ) (v : A) → All P l → P v → All P (set l i v)
+all-set P [] i v h p = tt
+all-set P (a ∷ l) zero v h p = (p, h .1)
+all-set P (a ∷ l) (suc i) v h p = (h .0, all-set P l i v (h .1) p)
+
+pub all-sets : {A : Type 0} (P : A → Type 0) (l : List A) (i : ℕ) (vs : List A) → All P l → All P vs → All P (sets l i vs)
+all-sets P l i [] h p = h
+all-sets P l i (v ∷ vs) h p = all-sets P (set l i v) (suc i) vs (all-set P l i v h (p .0)) (p .1)

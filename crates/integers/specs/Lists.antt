@@ -1,5 +1,6 @@
--- Lists: what holds of every element, strictly increasing lists of natural numbers, the elements that pass a test, and insertion.
-use Prim.Native.Nat.{ℕ, _-_, _<_}
+-- Lists: what holds of every element, strictly increasing lists of natural numbers, the elements that pass a test, a run of elements, and
+-- insertion.
+use Prim.Native.Nat.{ℕ, zero, suc, _+_, _-_, _<_}
 use mathlib.Core.Bool.{Bool, cond}
 use mathlib.Core.List.{List, [], _∷_}
 use lib.ListN.{take, drop}
@@ -21,6 +22,11 @@ Increasing (x ∷ l) = Above x l
 abbrev pub passing : {A : Type 0} → (A → Bool) → List A → List A
 passing p [] = []
 passing p (a ∷ l) = cond (p a) (a ∷ passing p l) (passing p l)
+
+-- what f gives of j, j + 1 and so on, n of them
+unfoldable pub from : {A : Type 0} → (ℕ → A) → ℕ → ℕ → List A
+from f j zero = []
+from f j (suc n) = f j ∷ from f (j + 1) n
 
 -- a value stored at a place, and what stood from there up to `count` one place further; nothing is stored beyond the end
 unfoldable pub inserted : {A : Type 0} → List A → ℕ → ℕ → A → List A

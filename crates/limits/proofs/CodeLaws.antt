@@ -18,7 +18,7 @@ use Rattle.limits.specs.Charge.{stopOf, chargeOf}
 use Rattle.limits.specs.Records.{limitOf, countOf, withCount, withWidened, withStatistics}
 use Rattle.limits.specs.Metered.{Run, going, stopped, Metered, mapped, through}
 use Rattle.limits.specs.Budget.{charge, charged, released, widenedOnce, ran}
-use Rattle.limits.specs.Meter.{Meter, meter, holding}
+use Rattle.limits.specs.Meter.{Meter, meter, holding, dropping}
 use Rattle.limits.specs.Meter as inner
 
 module _ (r : Resource) (old amount limit : ℕ) where
@@ -116,3 +116,12 @@ module _ {A : Type 0} (n : ℕ) (c : Metered Stop Meter A) (m : Meter) where
   pub hold-stop : {s : Stop} {m′ : Meter} → stopped s m′ ≡ c m → stopped s (inner.released n m′) ≡ holding n c m
   unfolding through mapped
   hold-stop h = rw (← h)
+
+  -- and of entries that go whichever way it ends
+  pub drop-on : {a : A} {m′ : Meter} → going a m′ ≡ c m → going a (inner.released n m′) ≡ dropping n c m
+  unfolding through mapped
+  drop-on h = rw (← h)
+
+  pub drop-stop : {s : Stop} {m′ : Meter} → stopped s m′ ≡ c m → stopped s (inner.released n m′) ≡ dropping n c m
+  unfolding through mapped
+  drop-stop h = rw (← h)

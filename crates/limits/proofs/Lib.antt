@@ -3,3 +3,5 @@ pub mod Monad
 pub mod Live
 pub mod ChargeLaws
 pub mod Ends
+pub mod Onward
+pub mod Alike

@@ -12,7 +12,9 @@ use Rattle.limits.specs.declared.Charged.{Charged}
 use Rattle.limits.specs.declared.Charged.the-variants.{Paid, Stopped}
 use Rattle.limits.specs.Charge.{stopOf, chargeOf}
 use Rattle.limits.specs.Metered.{Run, going, stopped, Metered, pure, after, _>>=_, _>>_, foldM, mapped, through}
-use Rattle.limits.specs.Meter.{Meter, work, retain, release, released, holding, charged, withWork, withEntries}
+use Rattle.limits.specs.Meter.{Meter, work, retain, release, released, holding, dropping, charged, withWork, withEntries}
+use Rattle.limits.proofs.Monad.{Holds, Ensures}
+use Rattle.limits.proofs.Ends.{Ends, completes, stops}
 
 module _ {A : Type 0} where
   abbrev pub LiveIn : ℕ → (A → ℕ) → Run Stop Meter A → Type 0
@@ -102,3 +104,24 @@ module _ {A : Type 0} where
   -- what holds no entries of its own
   pub live-beside : (n : ℕ) {c : Metered Stop Meter A} → Lives 0 (λ _. 0) c → Lives n (λ _. n) (holding n c)
   live-beside n h = live-as (λ _. omega arith) (live-holding n h)
+
+  -- what is done while n entries are live, which go whichever way it ends
+  dropping-live : (size : A → ℕ) (n e : ℕ) (x : Run Stop Meter A) → LiveIn (e + n) size x → LiveIn e size (mapped (released n) (released n) (λ s. s) x)
+  unfolding mapped
+  dropping-live size n e (going a m) h = omega arith
+  dropping-live size n e (stopped s m) h = omega arith
+
+  pub live-dropping : {size : A → ℕ} (n : ℕ) {c : Metered Stop Meter A} → Lives 0 size c → Lives n size (dropping n c)
+  unfolding through
+  live-dropping {size} n {c} h = record { at = λ e m k. dropping-live size n e (c m) (h .at (e + n) m (omega arith)) }
+
+-- ---- with what holds of the value, as an end
+
+module _ {A : Type 0} where
+  in-ends : (P : A → Type 0) (size : A → ℕ) (e : ℕ) (x : Run Stop Meter A) → LiveIn e size x → Holds P x → Ends (λ a m. P a × (m .entries ≡ e + size a)) (λ _ m. m .entries ≡ e) x
+  in-ends P size e (going a m) h p = completes (p, h)
+  in-ends P size e (stopped s m) h p = stops h
+
+  pub live-ends : {P : A → Type 0} {size : A → ℕ} {c : Metered Stop Meter A} → Lives 0 size c → Ensures P c → (m : Meter) →
+      Ends (λ a m′. P a × (m′ .entries ≡ m .entries + size a)) (λ _ m′. m′ .entries ≡ m .entries) (c m)
+  live-ends {P} {size} {c} h k m = in-ends P size (m .entries) (c m) (h .at (m .entries) m (omega arith)) (k .at m)

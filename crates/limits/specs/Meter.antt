@@ -7,7 +7,7 @@ use Rattle.limits.specs.declared.Charged.the-variants.{Paid, Stopped}
 use Rattle.limits.specs.declared.Budget.{Budget}
 use Rattle.limits.specs.Charge.{chargeOf}
 use Rattle.limits.specs.Records.{withCount, withStatistics}
-use Rattle.limits.specs.Metered.{Run, going, stopped, Metered, onStop, zoom}
+use Rattle.limits.specs.Metered.{Run, going, stopped, Metered, onStop, finally, zoom}
 
 pub record Meter : Type 0 where
   pub work : ℕ
@@ -44,6 +44,10 @@ release n m = going tt (released n m)
 -- m while n entries are live that go where m is stopped
 abbrev pub holding : {A : Type 0} → ℕ → Metered Stop Meter A → Metered Stop Meter A
 holding n m = onStop (released n) m
+
+-- m while n entries are live that go whichever way m ends: those of a value in hand that m uses last
+abbrev pub dropping : {A : Type 0} → ℕ → Metered Stop Meter A → Metered Stop Meter A
+dropping n m = finally (released n) m
 
 -- ---- in a budget
 

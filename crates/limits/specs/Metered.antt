@@ -49,6 +49,10 @@ module _ {E F S T A : Type 0} where
 abbrev pub onStop : {E S A : Type 0} → (S → S) → Metered E S A → Metered E S A
 onStop f m = through (λ s. s) (λ _ t. t) (λ _ t. f t) (λ e. e) m
 
+-- f is done to the state whichever way m ends
+abbrev pub finally : {E S A : Type 0} → (S → S) → Metered E S A → Metered E S A
+finally f m = through (λ s. s) (λ _ t. f t) (λ _ t. f t) (λ e. e) m
+
 -- all of m or nothing: the state before m where m is stopped
 abbrev pub whole : {E S A : Type 0} → Metered E S A → Metered E S A
 whole m = through (λ s. s) (λ _ t. t) (λ s _. s) (λ e. e) m

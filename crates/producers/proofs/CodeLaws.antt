@@ -1,5 +1,5 @@
 -- What the checks of a rule leave, over plain variables.
-use Prim.Native.Nat.{ℕ, zero, suc, _+_, _<_, _≤_}
+use Prim.Native.Nat.{ℕ, suc, _+_, _<_, _≤_}
 use native.Mathlib.Omega.{arith}
 use native.Mathlib.Numerals.{add-one}
 use mathlib.Core.Path.{_≡_, refl, sym, ap, subst, _∙_}
@@ -27,8 +27,9 @@ use Rattle.nodes.specs.declared.Expression.{Expression}
 use Rattle.nodes.specs.declared.Expression.the-variants.{Constant, Slot, Unary, Absolute, Binary, Unknown}
 use Rattle.nodes.specs.declared.UnaryOp.{UnaryOp}
 use Rattle.nodes.specs.declared.BinaryOp.{BinaryOp}
-use Rattle.nodes.specs.Node.{nodeAt, expressionOf, expressionAt}
-use Rattle.nodes.proofs.NodeLaws.{Below, children-smaller}
+use Rattle.nodes.specs.Node.{expressionAt}
+use Rattle.nodes.proofs.NodeLaws.{Below}
+use Rattle.nodes.proofs.Descent.{below, descends}
 use Rattle.rules.specs.declared.Binding.{Binding}
 use Rattle.rules.specs.declared.Guard.{Guard}
 use Rattle.limits.specs.declared.Budget.{Budget}
@@ -109,37 +110,17 @@ node-same f g slots id (Absolute e) b h = h e b
 node-same f g slots id (Binary op l r) b h = rw (h r (b .1), h l (b .0))
 node-same f g slots id (Unknown i w) b h = refl
 
-same-depth : (n m : ℕ) (s : Scope) (id : ℕ) → id < n → id < m → checkIn n s id ≡ checkIn m s id
-unfolding checkIn expressionAt
-same-depth zero m s id h k = absurd (omega arith)
-same-depth (suc n) zero s id h k = absurd (omega arith)
-same-depth (suc n) (suc m) s id h k =
+abbrev checkStep : Scope → (ℕ → Check) → ℕ → Check
+checkStep s f id = step >> unless (λ _. ltb id (s .expressions)) Missing (checkNode f (s .slots) (expressionAt (s .nodes) id))
+
+check-near : (s : Scope) (f g : ℕ → Check) (id : ℕ) → ((j : ℕ) → j < id → f j ≡ g j) → checkStep s f id ≡ checkStep s g id
+check-near s f g id h =
     ap (λ (c : Check). step >> unless (λ _. ltb id (s .expressions)) Missing c)
-    (node-same (checkIn n s) (checkIn m s) (s .slots) id (expressionOf (nodeAt (s .nodes) id) id) (children-smaller (nodeAt (s .nodes) id) id)
-    (λ j l. same-depth n m s j (omega arith) (omega arith)))
+    (node-same f g (s .slots) id (expressionAt (s .nodes) id) (below (s .nodes) id refl (expressionAt (s .nodes) id) refl) h)
 
-check-open : (s : Scope) (id : ℕ) →
-    checkExpression s id ≡ (step >> unless (λ _. ltb id (s .expressions)) Missing (checkNode (checkExpression s) (s .slots) (expressionAt (s .nodes) id)))
-unfolding checkExpression checkIn expressionAt
-check-open s id =
-    ap (λ (c : Check). step >> unless (λ _. ltb id (s .expressions)) Missing c)
-    (node-same (checkIn id s) (λ j. checkIn (suc j) s j) (s .slots) id (expressionOf (nodeAt (s .nodes) id) id) (children-smaller (nodeAt (s .nodes) id) id)
-    (λ j l. same-depth id (suc j) s j l (omega arith)))
-
--- what the children's ids are smaller than
-module _ (cells : List ℕ) (id : ℕ) {x : Expression} (q : x ≡ expressionAt cells id) where
-  below : (y : Expression) → x ≡ y → Below id y
-  unfolding expressionAt
-  below y p = subst (Below id) (sym q ∙ p) (children-smaller (nodeAt cells id) id)
-
-  pub unary-smaller : {op : UnaryOp} {e : ℕ} → x ≡ Unary op e → e < id
-  unary-smaller {op} {e} p = below (Unary op e) p
-
-  pub absolute-smaller : {e : ℕ} → x ≡ Absolute e → e < id
-  absolute-smaller {e} p = below (Absolute e) p
-
-  pub binary-smaller : {op : BinaryOp} {l r : ℕ} → x ≡ Binary op l r → (l < id) × (r < id)
-  binary-smaller {op} {l} {r} p = below (Binary op l r) p
+check-open : (s : Scope) (id : ℕ) → checkExpression s id ≡ checkStep s (checkExpression s) id
+unfolding checkExpression checkIn
+check-open s id = descends (checkStep s) (check-near s) (λ n j. checkIn n s j) (λ n j. refl) id
 
 -- each way out of `check_expression`
 abbrev rest : Scope → ℕ → Check

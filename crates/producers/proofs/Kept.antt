@@ -239,6 +239,7 @@ shapely-short r h =
     let q = and-right b (c && (d && e)) p in (
       leb-true (r .slots) 16 (and-left a (b && (c && (d && e))) h),
       record {
+        slots = leb-true (r .slots) 16 (and-left a (b && (c && (d && e))) h);
         bindings = leb-true (r .lengths .bindings) 32 (and-left b (c && (d && e)) p);
         guards = leb-true (r .lengths .guards) 32 (and-left c (d && e) q);
         heads = leb-true (r .lengths .heads) 16 (and-left d e (and-right c (d && e) q));

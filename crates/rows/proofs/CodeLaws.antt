@@ -7,6 +7,7 @@ use mathlib.Core.Path.{_≡_, refl, sym, ap, _∙_}
 use mathlib.Core.Bool.{Bool, true, false, cond, not}
 use mathlib.Core.List.{List}
 use mathlib.Core.Option.{some, none}
+use borrow.Author.Tests.{eq-eqb, ne-eqb}
 use lib.Dec.{eqb}
 use lib.IntN.{ℤ}
 use lib.ListN.{length, getD, take, drop, set, length-take, length-drop, length-map, List·getD-eq-default, List·getD-map}
@@ -22,7 +23,7 @@ use Rattle.lattice.specs.declared.Reason.{Reason}
 use Rattle.lattice.specs.declared.Reason.the-variants.{None}
 use Rattle.lattice.specs.declared.Abstract.{Abstract}
 use Rattle.lattice.specs.Value.{Value, valueOf, reasonNumber}
-use Rattle.rows.specs.Row.{row, padded, integralityCell, caseCell, lowCell, highCell, boundCells, keptCell, listOf, encode, integralityOf, intervalOf, reasons, reasonOf, idOf, idsOf, decode, valueAt, put}
+use Rattle.rows.specs.Row.{row, padded, integralityCell, caseCell, lowCell, highCell, boundCells, keptCell, listOf, entriesOf, encode, integralityOf, intervalOf, reasons, reasonOf, idOf, idsOf, decode, valueAt, put}
 use Rattle.rows.proofs.RowLaws.{length-padded, getD-padded, row-cell}
 
 -- ---- one cell
@@ -119,3 +120,19 @@ module _ (cells : List ℕ) (i at : ℕ) (start : at ≡ min (row * i) (length c
   row-put v ek en ew p₁ p₂ p₃ p₄ p =
       p ∙ rw (p₄, p₃, p₂, p₁, ek, en, ew, taken (v .kept) (v .len) (v .ids))
       (stores (valueOf v) ∙ ap (λ (n : ℕ). sets cells n (encode (valueOf v))) start ∙ sets-min (encode (valueOf v)) cells (row * i))
+
+  -- ---- the live entries of a row
+
+  -- its list, as the row has it
+  row-entries : {a₄ a₅ : ℕ} → a₄ ≡ getD cells (at + 4) 0 → a₅ ≡ getD cells (at + 5) 0 →
+      length (listOf (cond (eqb a₄ 0) none (some (take a₅ (idsOf (padded row (drop at cells))))))) ≡ entriesOf (valueAt cells i)
+  unfolding valueAt decode
+  row-entries e₄ e₅ = rw (← the-row, e₄, cell 4 (omega arith), e₅, cell 5 (omega arith))
+
+  pub entries-none : {a₄ : ℕ} → a₄ ≡ getD cells (at + 4) 0 → a₄ ≡ 0 → 0 ≡ entriesOf (valueAt cells i)
+  entries-none e₄ z = rw (eq-eqb _ 0 z) at (row-entries e₄ refl)
+
+  pub entries-some : {a₄ a₅ n : ℕ} → a₄ ≡ getD cells (at + 4) 0 → a₅ ≡ getD cells (at + 5) 0 → (a₄ ≡ 0 → ⊥) → n ≡ min a₅ 16 → n ≡ entriesOf (valueAt cells i)
+  entries-some {a₄} {a₅} e₄ e₅ z m =
+      let l : length (idsOf (padded row (drop at cells))) ≡ 16 = simp (length-map, length-take, length-drop, length-padded) in
+      m ∙ sym (length-take a₅ (idsOf (padded row (drop at cells))) ∙ ap (min a₅) l) ∙ (rw (ne-eqb a₄ 0 z) at (row-entries e₄ e₅))

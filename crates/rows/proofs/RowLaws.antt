@@ -25,11 +25,13 @@ use Rattle.interval.specs.Interval as intervals
 use Rattle.interval.specs.Cousot as cousot
 use Rattle.cells.specs.Cells.{ofCell}
 use Rattle.cells.proofs.CellLaws.{of-to, of-number}
+use Rattle.lists.proofs.LiveLaws.{listSize}
 use Rattle.lattice.specs.declared.Widening.the-variants.{HeadForm, HeadTerm, UnboundVariable, SymbolSize, ValueWidth, Dependency}
 use Rattle.lattice.specs.declared.Reason.{Reason}
 use Rattle.lattice.specs.declared.Reason.the-variants.{None, Some}
 use Rattle.lattice.specs.Value.{Value, reasonNumber}
-use Rattle.rows.specs.Row.{row, padded, integralityCell, caseCell, lowCell, highCell, keptCell, listOf, encode, integralityOf, intervalOf, reasonOf, idOf, decode, valueAt, put, valuesOf}
+use Rattle.lattice.proofs.LiveLaws.{size}
+use Rattle.rows.specs.Row.{row, padded, integralityCell, caseCell, lowCell, highCell, keptCell, listOf, entriesOf, encode, integralityOf, intervalOf, reasonOf, idOf, decode, valueAt, put, valuesOf}
 use Rattle.rows.specs.WellFormed.{Proper, Short, WellFormed}
 
 -- ---- the first n of a list, with 0 beyond its end
@@ -52,13 +54,22 @@ pub length-encode : (v : Value) → length (encode v) ≡ row
 unfolding encode
 length-encode v = omega (arith, length-padded (row - 7) (listOf (v .values)))
 
+-- ---- live entries, as the lattice counts them
+
+pub size-is : (v : Value) → size v ≡ entriesOf v
+size-is v = go (v .values)
+  where
+    go : (o : Option (List ℕ)) → listSize o ≡ length (listOf o)
+    go none = refl
+    go (some l) = refl
+
 -- ---- any contents read as a well-formed value
 
-ascending-proper : (low high : ℤ) → Number low → Number high → Proper (ascendingOf low high)
+pub ascending-proper : (low high : ℤ) → Number low → Number high → Proper (ascendingOf low high)
 ascending-proper low high l h =
     by-le (λ b. Proper (intervals.interval (cond b (cousot.between (cousot.at low) (cousot.at high)) cousot.empty))) low high (λ a. (l, (h, a))) (λ _. tt)
 
-interval-proper : (n : ℕ) (low high : ℤ) → Number low → Number high → Proper (intervalOf n low high)
+pub interval-proper : (n : ℕ) (low high : ℤ) → Number low → Number high → Proper (intervalOf n low high)
 interval-proper zero low high l h = tt
 interval-proper (suc zero) low high l h = ascending-proper low high l h
 interval-proper (suc (suc zero)) low high l h = tt
@@ -99,7 +110,7 @@ integrality-back : (x : Integrality) → integralityOf (integralityCell x) ≡ x
 integrality-back Integer = refl
 integrality-back Mixed = refl
 
-interval-back : (x : Interval) → Proper x → intervalOf (caseCell x) (ofCell (lowCell x)) (ofCell (highCell x)) ≡ x
+pub interval-back : (x : Interval) → Proper x → intervalOf (caseCell x) (ofCell (lowCell x)) (ofCell (highCell x)) ≡ x
 interval-back Bottom p = refl
 interval-back (Bounded low high) p = rw (of-to low (p .0), of-to high (p .1 .0), yes-le low high (p .1 .1))
 interval-back Unbounded p = refl

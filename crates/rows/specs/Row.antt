@@ -59,6 +59,10 @@ abbrev pub listOf : Option (List ℕ) → List ℕ
 listOf none = []
 listOf (some l) = l
 
+-- the live entries of a value
+abbrev pub entriesOf : Value → ℕ
+entriesOf v = length (listOf (v .values))
+
 unfoldable pub encode : Value → List ℕ
 encode v =
     boundCells (v .bound) ++ (keptCell (v .values) ∷ length (listOf (v .values)) ∷ reasonNumber (v .widening) ∷ padded (row - 7) (listOf (v .values)))

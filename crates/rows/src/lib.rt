@@ -6,7 +6,7 @@ ghost use lib.ListN.{length, getD, take, drop};
 ghost use lib.Seq.{sets};
 ghost use Rattle.cells.specs.Cells.{ofCell};
 ghost use Rattle.lattice.specs.Value.{valueOf};
-ghost use Rattle.rows.specs.Row.{row, padded, integralityCell, caseCell, lowCell, highCell, boundCells, keptCell, listOf, integralityOf, intervalOf, reasonOf, idsOf, valueAt, put};
+ghost use Rattle.rows.specs.Row.{row, padded, integralityCell, caseCell, lowCell, highCell, boundCells, keptCell, listOf, entriesOf, integralityOf, intervalOf, reasonOf, idsOf, valueAt, put};
 use cells::cell_at;
 use cells::of_cell;
 use cells::put_cell;
@@ -41,7 +41,7 @@ fn integrality_of(cell: u32) -> Integrality
     Integrality::Mixed
 }
 
-fn interval_of(number: u32, low: u32, high: u32) -> Interval
+pub fn interval_of(number: u32, low: u32, high: u32) -> Interval
     ensures { λ r. ⌜ r ≡ intervalOf number (ofCell low) (ofCell high) ⌝ }
 {
     if number == 2 {
@@ -127,7 +127,7 @@ fn integrality_cell(integrality: Integrality) -> u32
     }
 }
 
-fn case_cell(interval: Interval) -> u32
+pub fn case_cell(interval: Interval) -> u32
     ensures { λ r. ⌜ r ≡ caseCell interval ⌝ }
 {
     match interval {
@@ -137,7 +137,7 @@ fn case_cell(interval: Interval) -> u32
     }
 }
 
-fn low_cell(interval: Interval) -> u32
+pub fn low_cell(interval: Interval) -> u32
     ensures { λ r. ⌜ r ≡ lowCell interval ⌝ }
 {
     match interval {
@@ -147,7 +147,7 @@ fn low_cell(interval: Interval) -> u32
     }
 }
 
-fn high_cell(interval: Interval) -> u32
+pub fn high_cell(interval: Interval) -> u32
     ensures { λ r. ⌜ r ≡ highCell interval ⌝ }
 {
     match interval {
@@ -188,6 +188,28 @@ fn list_len(value: Abstract) -> u32
         return lists::length_of(ids, value.len) as u32;
     }
     0
+}
+
+// The live entries of a value: those of its list.
+pub fn entries_of(value: Abstract) -> u64
+    ensures { λ r. ⌜ r ≡ entriesOf (valueOf value) ⌝ }
+{
+    list_len(value) as u64
+}
+
+// The live entries of the value in a row.
+pub fn entries_at(cells: &[u32], row: usize) -> u64
+    ensures { λ r. ⌜ r ≡ entriesOf (valueAt (now (cells .entry)) row) ⌝ }
+{
+    let at = start(cells.len(), row);
+    if cell_at(cells, at + 4) == 0 {
+        return 0;
+    }
+    let len = cell_at(cells, at + 5);
+    if 16 < len {
+        return 16;
+    }
+    len as u64
 }
 
 // An id of the list, or 0 behind it.

@@ -31,7 +31,7 @@ use Rattle.lattice.specs.Value.{Value, valueOf}
 use Rattle.lattice.specs.Constants.{constantAt}
 use Rattle.lattice.specs.Lattice.{numeric, constant, join}
 use Rattle.lattice.specs.Answers as lattice
-use Rattle.rows.specs.Row.{row, listOf, valueAt, put}
+use Rattle.rows.specs.Row.{row, listOf, entriesOf, valueAt, put}
 use Rattle.thresholds.specs.Thresholds.{Entry, entry, around}
 use Rattle.thresholds.proofs.Sorted.{Ending, Grows, around-grows}
 use Rattle.store.specs.declared.Store.{Store}
@@ -42,7 +42,7 @@ use Rattle.store.specs.Calls.{Marks, marks, entering}
 use Rattle.store.specs.Answers.{onMarks}
 use Rattle.provenance.specs.Provenance.{recordable}
 use Rattle.seeds.specs.declared.Joined.{Joined}
-use Rattle.seeds.specs.Seed.{entriesOf, loses, dropped, joined, Rows, rows, paying, seed, sizes, spacious, constantValue, seedConstant, ends, seedEnds}
+use Rattle.seeds.specs.Seed.{loses, dropped, joined, Rows, rows, paying, seed, sizes, spacious, constantValue, seedConstant, ends, seedEnds}
 use Rattle.seeds.specs.Answers.{ranAs, Makes, Seeds, onRows, Marked, onEnds, SeedsEnds}
 
 -- ---- the live entries of a value

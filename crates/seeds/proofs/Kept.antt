@@ -7,7 +7,6 @@ use mathlib.Core.Path.{_≡_, refl, ap, _∙_}
 use mathlib.Core.Logic.{_⊎_, inl, inr}
 use mathlib.Core.Bool.{Bool, true, false, cond, _&&_}
 use mathlib.Core.List.{List, [], _∷_}
-use mathlib.Core.Option.{Option, some, none}
 use borrow.Author.Tests.{leb-true, ltb-true, eqb-true}
 use lib.Dec.{leb, ltb, eqb}
 use lib.IntN.{ℤ}
@@ -31,8 +30,8 @@ use Rattle.lattice.specs.Constants.{constantAt}
 use Rattle.lattice.specs.Lattice.{join}
 use Rattle.lattice.proofs.Joins.{joinedList, joinedValue, join-is}
 use Rattle.lattice.proofs.LiveLaws.{size, constant-lives, join-lives}
-use Rattle.rows.specs.Row.{row, valueAt, put}
-use Rattle.rows.proofs.RowLaws.{length-put, put-back, put-other}
+use Rattle.rows.specs.Row.{row, entriesOf, valueAt, put}
+use Rattle.rows.proofs.RowLaws.{size-is, length-put, put-back, put-other}
 use Rattle.store.specs.declared.Context.{Context}
 use Rattle.store.specs.declared.Context.the-variants.{None, Some}
 use Rattle.store.specs.declared.Store.{Store}
@@ -40,15 +39,11 @@ use Rattle.store.specs.Store.{withBudget, withProvenance}
 use Rattle.store.specs.Calls.{open?, charged}
 use Rattle.store.proofs.Frame.{Spent, spends-work, spends-links}
 use Rattle.provenance.specs.Provenance.{records, recordIn, provenance, recordable}
-use Rattle.seeds.specs.Seed.{entriesOf, loses, dropped, joined, rows, seed, constantValue, seedConstant, sizes, spacious, Tables, tables, inRecords, inRows, seedValueCall}
+use Rattle.seeds.specs.Seed.{loses, dropped, joined, rows, seed, constantValue, seedConstant, sizes, spacious, Tables, tables, inRecords, inRows, seedValueCall}
 use Rattle.seeds.proofs.Seeded.{Regular, entriesIn, lost, regular-constant, constantSeed, constant-is, regular-join, lost-step, old-part, seeded-put, live-put, lost-put}
 use Rattle.seeds.proofs.Beside.{Standing, Beside, beside-more, Quiet, quiet-more, wider, same-count, standing-quiet, Kin, Bill, same-bill, beside-budget, quiet-bill, spent-bill, charged-ends}
 
 -- ---- values made in a budget
-
-entries-size : (x : Option (List ℕ)) (v : Value) → v .values ≡ x → size v ≡ entriesOf v
-entries-size none v e = rw e
-entries-size (some l) v e = rw e
 
 metered-ends : {A : Type 0} {P : A → Type 0} {held : A → ℕ} {n : ℕ} {m : Metered Stop Meter A} → Ensures P m → Lives n held m → (e : ℕ) (b : Budget) → b .statistics .entries ≡ e + n →
     Ends (λ a c. P a × Bill (e + held a) b c) (λ _ c. Bill e b c) (metered m b)
@@ -68,7 +63,7 @@ constant-ends : (constants : List ℕ) (k id : ℕ) (b : Budget) → id < k → 
     (λ _ c. Bill (b .statistics .entries) b c) (constantValue constants id b)
 unfolding constantValue
 constant-ends constants k id b i f g =
-    metered-ends (both (regular-constant (b .limits .width) k constants id i f g) (constant-is id (constantAt constants id) (b .limits .width))) (live-as (λ v. entries-size (v .values) v refl) (constant-lives id (constantAt constants id) (b .limits .width)))
+    metered-ends (both (regular-constant (b .limits .width) k constants id i f g) (constant-is id (constantAt constants id) (b .limits .width))) (live-as size-is (constant-lives id (constantAt constants id) (b .limits .width)))
     (b .statistics .entries) b (omega arith)
 
 -- ---- the join
@@ -106,7 +101,7 @@ unfolding joined
 joined-ends old v e b k =
     ends-bind (metered (holding (entriesOf v) (join (b .limits .width) old v))) (λ new c. going new (dropped old v new c)) b
     (metered-ends (by-through (λ w. w ≡ joinedValue (b .limits .width) old v) (λ s. s) (λ _ t. t) (λ _ t. meters.released (entriesOf v) t) (λ y. y) (join-is (b .limits .width) old v))
-    (live-holding (entriesOf v) (live-as (λ w. entries-size (w .values) w refl) (join-lives (b .limits .width) old v))) e b k)
+    (live-holding (entriesOf v) (live-as size-is (join-lives (b .limits .width) old v))) e b k)
     (λ new c p. completes (settle e old v new c (p .0) (p .1)))
     (λ _ c p. p)
 

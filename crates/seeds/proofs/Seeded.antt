@@ -16,18 +16,13 @@ use lib.ListN.{length, getD}
 use Rattle.integers.specs.Order.{Le, Number}
 use Rattle.integers.specs.Lists.{All}
 use Rattle.integers.proofs.Tests.{by-cond}
-use Rattle.integers.proofs.OrderLaws.{min-left, max-left, min-either, max-either}
 use Rattle.limits.specs.Meter.{retain}
 use Rattle.limits.proofs.Monad.{Ensures, by-pure, by-test, then}
-use Rattle.interval.specs.declared.Interval.{Interval}
-use Rattle.interval.specs.declared.Interval.the-variants.{Bottom, Bounded, Unbounded}
+use Rattle.interval.specs.declared.Interval.the-variants.{Bounded}
 use Rattle.interval.specs.declared.Bound.{Bound}
 use Rattle.interval.specs.declared.Constant.{Constant}
 use Rattle.interval.specs.declared.Constant.the-variants.{Number as number, Name, Large}
-use Rattle.interval.specs.Interval.{hullOf}
 use Rattle.interval.specs.Bound as bounds
-use Rattle.cells.specs.Cells.{ofCell}
-use Rattle.cells.proofs.CellLaws.{of-number}
 use Rattle.lists.specs.Lists.{mix, union}
 use Rattle.lists.proofs.ListLaws.{Sorted, room}
 use Rattle.lists.proofs.Unions.{union-increasing}
@@ -38,11 +33,12 @@ use Rattle.lattice.specs.Value.{Value, value}
 use Rattle.lattice.specs.Constants.{constantOf, constantAt, Retained}
 use Rattle.lattice.specs.Lattice.{bottom, numeric, retained, constant}
 use Rattle.lattice.proofs.Joins.{joinedList, joinedValue}
-use Rattle.rows.specs.Row.{row, valueAt, put}
+use Rattle.rows.specs.Row.{row, entriesOf, valueAt, put}
 use Rattle.rows.specs.WellFormed.{Proper, Short, WellFormed}
 use Rattle.rows.proofs.RowLaws.{length-put, put-back, put-other}
+use Rattle.rows.proofs.Formed.{proper-hull}
 use Rattle.store.specs.Calls.{bottoms}
-use Rattle.seeds.specs.Seed.{entriesOf, loses}
+use Rattle.seeds.specs.Seed.{loses}
 
 -- ---- what a seed is
 
@@ -177,21 +173,6 @@ kind-from kind cell h = elim (ℕ-discrete kind 1) [
 pub retained-is : (constants : List ℕ) (id : ℕ) → Retained constants id ↔ (constantAt constants id ≡ Large → ⊥)
 retained-is constants id = (kind-to (getD constants (2 * id) 0) (getD constants (2 * id + 1) 0), kind-from (getD constants (2 * id) 0) (getD constants (2 * id + 1) 0))
 
--- a constant's number has 32 bits, as its cell has
-pub number-fits : (constants : List ℕ) (id : ℕ) → getD constants (2 * id + 1) 0 < 2 ^ 32 → (n : ℤ) → constantAt constants id ≡ number n → Number n
-number-fits constants id h n e = go (getD constants (2 * id) 0) (getD constants (2 * id + 1) 0) h e
-  where
-    go : (kind cell : ℕ) → cell < 2 ^ 32 → constantOf kind cell ≡ number n → Number n
-    go kind cell l e = elim (ℕ-discrete kind 1) [
-      | yes d ↦
-          let f : ofCell cell ≡ n = cc (rw (eq-eqb kind 1 d) at e) in
-          rw (← f) (of-number cell l)
-      | no d ↦ elim (ℕ-discrete kind 2) [
-        | yes f ↦ let z : _≡_ {A = ℕ} 0 1 = cc (rw (ne-eqb kind 1 d, eq-eqb kind 2 f) at e) in absurd (omega arith)
-        | no f ↦ let z : _≡_ {A = ℕ} 0 1 = cc (rw (ne-eqb kind 1 d, ne-eqb kind 2 f) at e) in absurd (omega arith)
-      ]
-    ]
-
 -- ---- more constants, and other cells of which the kinds below k are the same
 
 module _ (k k′ : ℕ) (constants constants′ : List ℕ) (more : k ≤ k′) (same : (id : ℕ) → id < k → getD constants′ (2 * id) 0 ≡ getD constants (2 * id) 0) where
@@ -268,19 +249,6 @@ all-mix P x rest p r (y ∷ ys) q =
 all-union : (P : ℕ → Type 0) (xs ys : List ℕ) → All P xs → All P ys → All P (union xs ys)
 all-union P [] ys p q = q
 all-union P (x ∷ xs) ys p q = all-mix P x (union xs) (p .0) (λ zs r. all-union P xs zs (p .1) r) ys q
-
-proper-hull : (x y : Interval) → Proper x → Proper y → Proper (hullOf x y)
-unfolding hullOf
-proper-hull Bottom Bottom p q = tt
-proper-hull Bottom (Bounded c d) p q = q
-proper-hull Bottom Unbounded p q = tt
-proper-hull (Bounded a b) Bottom p q = p
-proper-hull (Bounded a b) (Bounded c d) p q =
-    (min-either Number a c (p .0) (q .0), (max-either Number b d (p .1 .0) (q .1 .0), omega (arith, min-left a c, max-left b d)))
-proper-hull (Bounded a b) Unbounded p q = tt
-proper-hull Unbounded Bottom p q = tt
-proper-hull Unbounded (Bounded c d) p q = tt
-proper-hull Unbounded Unbounded p q = tt
 
 module _ (width k : ℕ) (constants : List ℕ) where
   list-regular : (b : Bound) (r : Reason) (x y : Option (List ℕ)) → Proper (b .interval) → Short x → Short y → Sorted x → Sorted y → Known k constants x → Known k constants y →

@@ -18,17 +18,13 @@ use Rattle.interval.specs.declared.Interval.the-variants.{Bounded}
 use Rattle.lattice.specs.Value.{Value}
 use Rattle.lattice.specs.Constants.{constantAt}
 use Rattle.lattice.specs.Lattice.{constant, numeric, join}
-use Rattle.rows.specs.Row.{row, listOf, valueAt, put}
+use Rattle.rows.specs.Row.{row, entriesOf, valueAt, put}
 use Rattle.thresholds.specs.Thresholds.{around}
 use Rattle.store.specs.declared.Store.{Store}
 use Rattle.store.specs.Calls.{unless, open?, charged, marks, entering}
 use Rattle.provenance.specs.Provenance.{Records, records, provenance, recordable}
 
 -- ---- a seed
-
--- the live entries of a value
-abbrev pub entriesOf : Value → ℕ
-entriesOf v = length (listOf (v .values))
 
 -- the list is lost
 abbrev pub loses : Option (List ℕ) → Option (List ℕ) → Bool

@@ -13,7 +13,7 @@ ghost use Prim.Native.Nat.{_+_, _≤_};
 ghost use lib.ListN.{length};
 ghost use Rattle.limits.specs.Meter.{meter, withMeter};
 ghost use Rattle.lattice.specs.Value.{valueOf};
-ghost use Rattle.seeds.specs.Seed.{entriesOf, loses, dropped, joined, seed, constantValue, seedConstant, sizes, spacious, tables, intervalTables, seedValueCall, seedIntervalCall};
+ghost use Rattle.seeds.specs.Seed.{loses, dropped, joined, seed, constantValue, seedConstant, sizes, spacious, tables, intervalTables, seedValueCall, seedIntervalCall};
 ghost use Rattle.seeds.specs.Answers.{Makes, Seeds, Marked, SeedsEnds, onTables, onIntervalTables};
 
 // A value with the budget after it. Where the outcome is a stop there is no value, and the field means nothing.
@@ -21,17 +21,6 @@ pub struct Joined {
     pub outcome: Outcome,
     pub value: Abstract,
     pub budget: Budget,
-}
-
-// The live entries of a value.
-fn entries_of(value: Abstract) -> u64
-    ensures { λ r. ⌜ r ≡ entriesOf (valueOf value) ⌝ }
-{
-    if value.kept {
-        let ids = value.ids;
-        return lists::length_of(ids, value.len) as u64;
-    }
-    0
 }
 
 // Whether the list is lost on the way from one value to another.
@@ -48,7 +37,7 @@ fn is_lost(old: Abstract, new: Abstract) -> bool
 fn drop_both(budget: Budget, old: Abstract, value: Abstract, new: Abstract) -> Budget
     ensures { λ r. ⌜ r ≡ dropped (valueOf old) (valueOf value) (valueOf new) budget ⌝ }
 {
-    let held = entries_of(old) + entries_of(value);
+    let held = rows::entries_of(old) + rows::entries_of(value);
     if is_lost(old, new) {
         let counted = budget.widen();
         return counted.release(held);
@@ -82,7 +71,7 @@ fn join_seed(old: Abstract, value: Abstract, budget: Budget) -> Joined
     let new = made.value;
     match outcome {
         Outcome::Stopped(_) => {
-            let left = limits::release(made.entries, entries_of(value));
+            let left = limits::release(made.entries, rows::entries_of(value));
             Joined {
                 outcome,
                 value: new,

@@ -1,5 +1,6 @@
 -- `producers::check_expression` meets its contract.
-use Rattle.producers.proofs.CodeLaws.{unary-smaller, absolute-smaller, binary-smaller, check-stopped, check-missing, check-constant, check-slot, check-unary, check-absolute, check-right, check-both, check-unknown}
+use Rattle.nodes.proofs.Descent.{unary-smaller, absolute-smaller, binary-smaller}
+use Rattle.producers.proofs.CodeLaws.{check-stopped, check-missing, check-constant, check-slot, check-unary, check-absolute, check-right, check-both, check-unknown}
 use Rattle.producers.specs.Producer.{scope}
 use borrow.Author.Needs.{needs}
 use native.Mathlib.Omega.{arith}
