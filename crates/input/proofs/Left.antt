@@ -35,7 +35,7 @@ use Rattle.constants.proofs.Kept.{Stands, Surrounds, Marked, Numbered, again, n
 use Rattle.seeds.proofs.Beside.{Standing}
 use Rattle.producers.specs.Producer.{scope}
 use Rattle.producers.proofs.Scoped.{RuleIn, rule-in-more}
-use Rattle.input.specs.Input.{Tables, Reply, TypedKey, on}
+use Rattle.input.specs.Input.{Tables, Reply, TypedKey, on, Whole}
 use Rattle.input.proofs.Reached.{Laid, Numbers, Ruled, Rules, Reached}
 
 -- ---- a call on a part of the store
@@ -279,19 +279,19 @@ pub rules-more : {n a a′ e e′ : ℕ} {nodes nodes′ cells : List ℕ} → a
 rules-more more grows same h = record {
   at = λ id l.
       let p = h .at id l in
-      record { rule = p .rule; context = p .context; inside = rule-in-more (p .rule .slots) more grows same (p .inside); back = p .back };
+      record { rule = p .rule; context = p .context; inside = rule-in-more (p .rule .slots) more grows same (p .inside); whole = p .whole; back = p .back };
 }
 
 -- one more rule
-pub rules-new : {n a e : ℕ} {nodes cells cells′ : List ℕ} (q : Rule) (c : Context) → RuleIn a (scope nodes e (q .slots)) q → Row q c cells′ n →
+pub rules-new : {n a e : ℕ} {nodes cells cells′ : List ℕ} (q : Rule) (c : Context) → RuleIn a (scope nodes e (q .slots)) q → Whole q → Row q c cells′ n →
     ((p : Rule) (d : Context) (j : ℕ) → Short p → (j ≡ n → ⊥) → Row p d cells j → Row p d cells′ j) → Rules n a e nodes cells → Rules (n + 1) a e nodes cells′
-rules-new {n} {a} {e} {nodes} {cells} {cells′} q c inside back others h = record { at = λ id l. go id l (decLt id n) }
+rules-new {n} {a} {e} {nodes} {cells} {cells′} q c inside whole back others h = record { at = λ id l. go id l (decLt id n) }
   where
     go : (id : ℕ) → id < n + 1 → Dec (id < n) → Ruled a e nodes cells′ id
     go id l (yes b) =
         let p = h .at id b in
-        record { rule = p .rule; context = p .context; inside = p .inside; back = others (p .rule) (p .context) id (p .inside .short) (λ d. omega arith) (p .back) }
-    go id l (no b) = let d : id ≡ n = omega arith in rw d record { rule = q; context = c; inside = inside; back = back }
+        record { rule = p .rule; context = p .context; inside = p .inside; whole = p .whole; back = others (p .rule) (p .context) id (p .inside .short) (λ d. omega arith) (p .back) }
+    go id l (no b) = let d : id ≡ n = omega arith in rw d record { rule = q; context = c; inside = inside; whole = whole; back = back }
 
 -- ---- a new constant
 

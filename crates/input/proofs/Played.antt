@@ -33,7 +33,7 @@ call-keeps (constant k) h t r = constant-keeps k t h r
 call-keeps (expression e) h t r = expression-keeps e t r
 call-keeps (seedValue a k) h t r = seed-value-keeps a k t r
 call-keeps (seedInterval a low high) h t r = seed-interval-keeps a low high t (h .0) (h .1) r
-call-keeps (rule q) h t r = rule-keeps q t r
+call-keeps (rule q) h t r = rule-keeps q t h r
 
 pub call-reached : (c : Call) → Typed c → (t : Tables) → Reached t → Ends (λ _ u. Reached u) (λ _ u. Reached u) (call c t)
 call-reached c h t r = ends-as (call-keeps c h t r) (λ _ u p. p .reached) (λ _ u p. p .reached)

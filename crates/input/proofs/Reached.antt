@@ -38,7 +38,7 @@ use Rattle.seeds.proofs.Seeded.{lost-bound}
 use Rattle.seeds.proofs.Beside.{Standing, standing-none}
 use Rattle.producers.specs.Producer.{scope}
 use Rattle.producers.proofs.Scoped.{RuleIn}
-use Rattle.input.specs.Input.{Tables}
+use Rattle.input.specs.Input.{Tables, Whole}
 
 -- the tables have the sizes that calls ask for
 pub record Sized (t : Tables) : Type 0 where
@@ -77,6 +77,7 @@ pub record Ruled (arguments expressions : ℕ) (nodes cells : List ℕ) (id : �
   pub rule : Rule
   pub context : Context
   pub inside : RuleIn arguments (scope nodes expressions (rule .slots)) rule
+  pub whole : Whole rule
   pub back : Row rule context cells id
 
 -- the first n rules

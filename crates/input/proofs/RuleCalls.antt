@@ -29,7 +29,7 @@ use Rattle.producers.specs.Producer.{Scope, scopeOf, checking, inStore, checkVa
 use Rattle.producers.specs.Producer as producers
 use Rattle.producers.proofs.Kept.{Accepted, rule-ends}
 use Rattle.producers.proofs.Kept as kept
-use Rattle.input.specs.Input.{Tables, id, forRule, fromRule, call}
+use Rattle.input.specs.Input.{Tables, id, forRule, fromRule, call, Whole}
 use Rattle.input.specs.Input as input
 use Rattle.input.proofs.Reached.{Reached}
 use Rattle.input.proofs.Left.{on-ends, Leaves, Refused, early, Beyond, left-reached, rules-new, Goes, goes}
@@ -150,8 +150,8 @@ module _ {t : Tables} (r : Reached t) (q : Rule) where
           none : t .header .context ≡ None → ⊥
           none d = let z : _≡_ {A = ℕ} 0 1 = cc in absurd (omega arith)
 
-  rule-accepted : {i : ℕ} {u : producers.Tables} → Accepted (t .nodes) q (forRule t) i u → Same u → recordable (t .header .context) (t .header .counts .provenance) ≡ true → Goes t (fromRule u t)
-  rule-accepted {i} {u} a same room =
+  rule-accepted : {i : ℕ} {u : producers.Tables} → Whole q → Accepted (t .nodes) q (forRule t) i u → Same u → recordable (t .header .context) (t .header .counts .provenance) ≡ true → Goes t (fromRule u t)
+  rule-accepted {i} {u} whole a same room =
       let h = a .is in
       let e : i ≡ t .header .counts .rules = a .next in
       goes r (record { names = refl; constants = refl; order = refl; nodes = refl; count = rw h; keys = rw h; expressions = rw h; limits = rw h (a .spent .limits) })
@@ -179,7 +179,7 @@ module _ {t : Tables} (r : Reached t) (q : Rule) where
         };
         rules =
             rw (ap (λ (s : Store). s .counts .rules) h, ap (λ (s : Store). s .counts .positions) h, ap (λ (s : Store). s .counts .expressions) h)
-            (rules-new q (t .header .context) (a .inside) (rw e at (a .back)) (rw e at (a .others)) (r .rules));
+            (rules-new q (t .header .context) (a .inside) whole (rw e at (a .back)) (rw e at (a .others)) (r .rules));
       }
 
   rule-refused : {e : Told} {u : producers.Tables} → kept.Refused (forRule t) e u → Same u → (u ≡ forRule t) ⊎ (recordable (t .header .context) (t .header .counts .provenance) ≡ true) → Refused t e (fromRule u t)
@@ -213,9 +213,9 @@ module _ {t : Tables} (r : Reached t) (q : Rule) where
             few-records = few room;
           }
 
-pub rule-keeps : (q : Rule) (t : Tables) → Reached t → Keeps (input.rule q) t
+pub rule-keeps : (q : Rule) (t : Tables) → Whole q → Reached t → Keeps (input.rule q) t
 unfolding call
-rule-keeps q t r =
+rule-keeps q t whole r =
     on-ends forRule fromRule id (ruleCall (t .nodes) q) t (ends-both (rule-ends (t .nodes) q (forRule t) (r .context)) (ends-both (without r q) (rule-room (t .nodes) q (forRule t))))
-    (λ i u p. rule-accepted r q (p .0) (p .1 .0) (p .1 .1))
+    (λ i u p. rule-accepted r q whole (p .0) (p .1 .0) (p .1 .1))
     (λ e u p. rule-refused r q (p .0) (p .1 .0) (p .1 .1))

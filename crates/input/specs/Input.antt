@@ -1,7 +1,9 @@
 -- The calls of a store put together: one state with the header and all lent tables, on which each call is what its own crate says of it.
 use Prim.Native.Nat.{ℕ, _^_, _<_}
+use mathlib.Core.Path.{_≡_}
 use mathlib.Core.List.{List, [], _∷_}
 use lib.IntN.{ℤ}
+use lib.ListN.{length}
 use Rattle.integers.specs.Order.{Number}
 use Rattle.limits.specs.Refusal.{Told}
 use Rattle.limits.specs.Metered.{Run, going, stopped, Metered, pure, _>>=_, zoom}
@@ -58,10 +60,13 @@ pub data Reply : Type 0 where
   done : Reply
   id : ℕ → Reply
 
--- what the parameters' types give: a context has 32 bits, and so has a number
+-- what the parameters' types give: a context has 32 bits, and so has a number; a rule's arrays have their lengths
 abbrev pub TypedKey : Key → Type 0
 TypedKey (number v) = Number v
 TypedKey (name s) = Unit {0}
+
+abbrev pub Whole : Rule → Type 0
+Whole r = (length (r .bindings) ≡ 32) × ((length (r .guards) ≡ 32) × (length (r .heads) ≡ 16))
 
 abbrev pub Typed : Call → Type 0
 Typed (context c) = c < 2 ^ 32
@@ -72,7 +77,7 @@ Typed (constant k) = TypedKey k
 Typed (expression e) = Unit {0}
 Typed (seedValue a k) = Unit {0}
 Typed (seedInterval a low high) = Number low × Number high
-Typed (rule r) = Unit {0}
+Typed (rule r) = Whole r
 
 -- ---- the tables that a call is lent, and the store with what it leaves of them
 

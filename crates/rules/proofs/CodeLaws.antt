@@ -2,12 +2,12 @@
 use Prim.Native.Nat.{ℕ, zero, suc, min, _+_, _*_, _≤_, _<_}
 use native.Mathlib.Omega.{arith}
 use native.Mathlib.Nat.{add-zero}
-use native.Mathlib.Decide.{decLe}
 use native.Mathlib.Numerals.{add-one, towards-suc}
 use mathlib.Core.Path.{_≡_, refl, sym, ap, _∙_}
 use mathlib.Core.List.{List, [], _∷_, _++_, map, map-append}
 use lib.ListN.{length, getD, take, drop, set, length-map, length-take, drop-of-length-le, List·getD-eq-default}
 use lib.Seq.{sets, drop-cons, getD-take}
+use Rattle.integers.proofs.Stores.{getD-min}
 use Rattle.store.specs.declared.Context.{Context}
 use Rattle.rules.specs.declared.AggregateFunction.{AggregateFunction}
 use Rattle.rules.specs.declared.AggregateFunction.the-variants.{Count, Sum, SumPlus, Min, Max}
@@ -161,15 +161,8 @@ as-compare (suc (suc k)) a b c n d = rw d
 -- ---- a cell of a row, which begins at the table's end where it would begin beyond
 
 module _ (cells : List ℕ) where
-  -- places that are the same, or both beyond the table
-  beyond : {m n : ℕ} → length cells ≤ m → length cells ≤ n → getD cells m 0 ≡ getD cells n 0
-  beyond {m} {n} h g = List·getD-eq-default cells 0 {n = m} h ∙ sym (List·getD-eq-default cells 0 {n = n} g)
-
   reached : (x a k : ℕ) → a ≡ min x (length cells) → getD cells (a + k) 0 ≡ getD cells (x + k) 0
-  reached x a k e = elim (decLe x (length cells)) [
-    | yes h ↦ let d : a ≡ x = omega arith in ap (λ (n : ℕ). getD cells (n + k) 0) d
-    | no h ↦ beyond (omega arith) (omega arith)
-  ]
+  reached x a k e = ap (λ (n : ℕ). getD cells (n + k) 0) e ∙ getD-min 0 cells x k
 
   item-reached : (x y a b o k : ℕ) → a ≡ min x (length cells) → b ≡ min y (length cells) → getD cells (a + o + b + k) 0 ≡ getD cells (x + o + y + k) 0
   item-reached x y a b o k e f =
@@ -184,10 +177,12 @@ module _ (cells : List ℕ) where
       ap (λ (n : ℕ). getD cells n 0) (sym (add-zero (a + o + b))) ∙ item-reached x y a b o 0 e f ∙ ap (λ (n : ℕ). getD cells n 0) (add-zero (x + o + y))
 
   module _ (id at : ℕ) (start : at ≡ min (row * id) (length cells)) where
-    pub slots-read : {n : ℕ} → n ≡ getD cells at 0 → n ≡ slotsAt cells id
+    pub slots-read : {m n : ℕ} → m ≡ getD cells at 0 → n ≡ min m 16 → n ≡ slotsAt cells id
     unfolding slotsAt
-    slots-read e =
-        e ∙ ap (λ (n : ℕ). getD cells n 0) (sym (add-zero at)) ∙ reached (row * id) at 0 start ∙ ap (λ (n : ℕ). getD cells n 0) (add-zero (row * id))
+    slots-read p e =
+        e
+        ∙ ap (λ (m : ℕ). min m 16)
+        (p ∙ ap (λ (n : ℕ). getD cells n 0) (sym (add-zero at)) ∙ reached (row * id) at 0 start ∙ ap (λ (n : ℕ). getD cells n 0) (add-zero (row * id)))
 
     pub context-read : {m n : ℕ} {c : Context} → m ≡ getD cells (at + 1) 0 → n ≡ getD cells (at + 2) 0 → c ≡ contextOf m n → c ≡ contextAt cells id
     unfolding contextAt

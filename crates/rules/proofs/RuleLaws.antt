@@ -1,13 +1,13 @@
 -- A rule that was written reads back, and the rows of other ids read as they did, whatever the table holds.
-use Prim.Native.Nat.{ℕ, zero, suc, _+_, _-_, _*_, _^_, _≤_, _<_}
+use Prim.Native.Nat.{ℕ, zero, suc, min, _+_, _-_, _*_, _^_, _≤_, _<_}
 use native.Mathlib.Omega.{arith}
 use native.Mathlib.Nat.{add-zero, mul-suc, mul-le-mul-left}
-use mathlib.Core.Path.{_≡_, refl, ap, subst, _∙_}
-use mathlib.Core.List.{List, [], _∷_, map}
+use mathlib.Core.Path.{_≡_, refl, sym, ap, subst, _∙_}
+use mathlib.Core.List.{List, [], _∷_, map, map-id}
 use lib.ListN.{length, getD, take, length-append, length-map, length-take, List·getD-map, List·getD-append}
 use lib.Seq.{sets, length-sets, getD-append-add}
-use Rattle.integers.specs.Lists.{All}
-use Rattle.integers.proofs.ListLaws.{Compared, less, more, same, compared}
+use Rattle.integers.specs.Lists.{All, from}
+use Rattle.integers.proofs.ListLaws.{Compared, less, more, same, compared, from-list}
 use Rattle.integers.proofs.Stores.{sets-before, sets-after, sets-in}
 use Rattle.store.specs.declared.Context.{Context}
 use Rattle.store.specs.declared.Context.the-variants.{None, Some}
@@ -24,13 +24,14 @@ use Rattle.rules.specs.declared.GuardItem.{GuardItem}
 use Rattle.rules.specs.declared.Head.{Head}
 use Rattle.rules.specs.declared.Rule.{Rule}
 use Rattle.rules.specs.Rule.{functionNumber, relationNumber, bindingCells, guardCells, headCells, markOf, numberOf, fixedCells, bindingsOf, guardsOf, headsOf, flat, cell, row, putRule}
-use Rattle.rules.specs.Read.{functionOf, relationOf, bindingOf, guardOf, headOf, contextOf, slotsAt, contextAt, bindingCount, guardCount, headCount, bindingAt, guardAt, headAt}
+use Rattle.rules.specs.Read.{functionOf, relationOf, bindingOf, guardOf, headOf, contextOf, slotsAt, contextAt, bindingCount, guardCount, headCount, bindingAt, guardAt, headAt, bindingsAt, guardsAt, headsAt}
 use Rattle.rules.proofs.CodeLaws.{binding-width, guard-width, head-width}
 
 -- ---- rules whose row holds all that they have
 
 -- what a row has room for
 pub record Short (r : Rule) : Type 0 where
+  pub slots : r .slots ≤ 16
   pub bindings : r .lengths .bindings ≤ 32
   pub guards : r .lengths .guards ≤ 32
   pub heads : r .lengths .heads ≤ 16
@@ -236,7 +237,9 @@ module _ (cells : List ℕ) (id : ℕ) (r : Rule) (c : Context) (short : Short r
     pub slots-back : slotsAt (putRule cells id r c) id ≡ r .slots
     unfolding slotsAt
     slots-back =
-        subst (λ (i : ℕ). getD (putRule cells id r c) i 0 ≡ r .slots) (add-zero (row * id)) (fixed-cell 0 (omega arith) ∙ small-cell (r .slots) (small .slots))
+        ap (λ (n : ℕ). min n 16)
+        (subst (λ (i : ℕ). getD (putRule cells id r c) i 0 ≡ r .slots) (add-zero (row * id)) (fixed-cell 0 (omega arith) ∙ small-cell (r .slots) (omega (arith, short .slots))))
+        ∙ omega (arith, short .slots)
 
     pub context-reads : SmallContext c → contextAt (putRule cells id r c) id ≡ c
     unfolding contextAt
@@ -313,7 +316,7 @@ module _ (cells : List ℕ) (id : ℕ) (r : Rule) (c : Context) (short : Short r
 
     pub slots-kept : slotsAt (putRule cells id r c) j ≡ slotsAt cells j
     unfolding slotsAt
-    slots-kept = place-kept (row * j) (omega arith) (omega arith)
+    slots-kept = ap (λ (n : ℕ). min n 16) (place-kept (row * j) (omega arith) (omega arith))
 
     pub context-kept : contextAt (putRule cells id r c) j ≡ contextAt cells j
     unfolding contextAt
@@ -361,35 +364,10 @@ pub record Row (r : Rule) (c : Context) (cells : List ℕ) (id : ℕ) : Type 0 w
   pub bindings : (z : BindingItem) (j : ℕ) → j < length (bindingsOf r) → bindingAt cells id j ≡ getD (bindingsOf r) j z .binding
   pub guards : (z : GuardItem) (j : ℕ) → j < length (guardsOf r) → guardAt cells id j ≡ getD (guardsOf r) j z .guard
   pub heads : (z : Head) (j : ℕ) → j < length (headsOf r) → headAt cells id j ≡ getD (headsOf r) j z
-
-module _ (cells : List ℕ) (id : ℕ) (r : Rule) (c : Context) where
-  pub length-rule : length (putRule cells id r c) ≡ length cells
-  unfolding putRule
-  length-rule = simp length-sets refl
-
-  pub rule-back : Short r → row * id + row ≤ length cells → Small r → SmallContext c → Row r c (putRule cells id r c) id
-  rule-back short room small s = record {
-    slots = slots-back cells id r c short room small;
-    context = context-reads cells id r c short room small s;
-    binding-count = binding-count-back cells id r c short room small;
-    guard-count = guard-count-back cells id r c short room small;
-    head-count = head-count-back cells id r c short room small;
-    bindings = binding-reads cells id r c short room small;
-    guards = guard-reads cells id r c short room small;
-    heads = head-reads cells id r c short room small;
-  }
-
-  pub rule-kept : Short r → (q : Rule) (d : Context) (j : ℕ) → Short q → (j ≡ id → ⊥) → Row q d cells j → Row q d (putRule cells id r c) j
-  rule-kept short q d j few other p = record {
-    slots = slots-kept cells id r c short j other ∙ p .slots;
-    context = context-kept cells id r c short j other ∙ p .context;
-    binding-count = binding-count-kept cells id r c short j other ∙ p .binding-count;
-    guard-count = guard-count-kept cells id r c short j other ∙ p .guard-count;
-    head-count = head-count-kept cells id r c short j other ∙ p .head-count;
-    bindings = λ z i h. binding-kept cells id r c short j other i (omega (arith, few .bindings, taken-few (q .lengths .bindings) (q .bindings))) ∙ p .bindings z i h;
-    guards = λ z i h. guard-kept cells id r c short j other i (omega (arith, few .guards, taken-few (q .lengths .guards) (q .guards))) ∙ p .guards z i h;
-    heads = λ z i h. head-kept cells id r c short j other i (omega (arith, few .heads, taken-few (q .lengths .heads) (q .heads))) ∙ p .heads z i h;
-  }
+  -- and as lists, where the arrays are as long as the lengths say
+  pub all-bindings : r .lengths .bindings ≤ length (r .bindings) → bindingsAt cells id ≡ map (λ i. i .binding) (bindingsOf r)
+  pub all-guards : r .lengths .guards ≤ length (r .guards) → guardsAt cells id ≡ map (λ i. i .guard) (guardsOf r)
+  pub all-heads : r .lengths .heads ≤ length (r .heads) → headsAt cells id ≡ headsOf r
 
 -- ---- how many there are to read: as many as the lengths say, if the arrays are long enough
 
@@ -401,3 +379,56 @@ guards-there r h = simp length-take (omega arith)
 
 pub heads-there : (r : Rule) → r .lengths .heads ≤ length (r .heads) → length (headsOf r) ≡ r .lengths .heads
 heads-there r h = simp length-take (omega arith)
+
+-- one after another, they are the list
+listed : {A B : Type 0} (f : ℕ → B) (g : A → B) (l : List A) {n m : ℕ} → n ≡ m → length l ≡ m → ((z : A) (j : ℕ) → j < length l → f j ≡ g (getD l j z)) → from f 0 n ≡ map g l
+listed f g l e k h = ap (from f 0) (e ∙ sym k) ∙ from-list f g l 0 (λ z i b. ap f (omega arith) ∙ h z i b)
+
+-- the numbers and the elements of a row make its lists
+row-of : {r : Rule} {c : Context} {cells : List ℕ} {id : ℕ} → slotsAt cells id ≡ r .slots → contextAt cells id ≡ c →
+    bindingCount cells id ≡ r .lengths .bindings → guardCount cells id ≡ r .lengths .guards → headCount cells id ≡ r .lengths .heads →
+    ((z : BindingItem) (j : ℕ) → j < length (bindingsOf r) → bindingAt cells id j ≡ getD (bindingsOf r) j z .binding) →
+    ((z : GuardItem) (j : ℕ) → j < length (guardsOf r) → guardAt cells id j ≡ getD (guardsOf r) j z .guard) →
+    ((z : Head) (j : ℕ) → j < length (headsOf r) → headAt cells id j ≡ getD (headsOf r) j z) → Row r c cells id
+row-of {r} {c} {cells} {id} s x nb ng nh b g h = record {
+  slots = s;
+  context = x;
+  binding-count = nb;
+  guard-count = ng;
+  head-count = nh;
+  bindings = b;
+  guards = g;
+  heads = h;
+  all-bindings = λ k. listed (bindingAt cells id) (λ (i : BindingItem). i .binding) (bindingsOf r) nb (bindings-there r k) b;
+  all-guards = λ k. listed (guardAt cells id) (λ (i : GuardItem). i .guard) (guardsOf r) ng (guards-there r k) g;
+  all-heads = λ k. listed (headAt cells id) (λ (i : Head). i) (headsOf r) nh (heads-there r k) h ∙ map-id (headsOf r);
+}
+
+module _ (cells : List ℕ) (id : ℕ) (r : Rule) (c : Context) where
+  pub length-rule : length (putRule cells id r c) ≡ length cells
+  unfolding putRule
+  length-rule = simp length-sets refl
+
+  pub rule-back : Short r → row * id + row ≤ length cells → Small r → SmallContext c → Row r c (putRule cells id r c) id
+  rule-back short room small s =
+      row-of
+      (slots-back cells id r c short room small)
+      (context-reads cells id r c short room small s)
+      (binding-count-back cells id r c short room small)
+      (guard-count-back cells id r c short room small)
+      (head-count-back cells id r c short room small)
+      (binding-reads cells id r c short room small)
+      (guard-reads cells id r c short room small)
+      (head-reads cells id r c short room small)
+
+  pub rule-kept : Short r → (q : Rule) (d : Context) (j : ℕ) → Short q → (j ≡ id → ⊥) → Row q d cells j → Row q d (putRule cells id r c) j
+  rule-kept short q d j few other p =
+      row-of
+      (slots-kept cells id r c short j other ∙ p .slots)
+      (context-kept cells id r c short j other ∙ p .context)
+      (binding-count-kept cells id r c short j other ∙ p .binding-count)
+      (guard-count-kept cells id r c short j other ∙ p .guard-count)
+      (head-count-kept cells id r c short j other ∙ p .head-count)
+      (λ z i h. binding-kept cells id r c short j other i (omega (arith, few .bindings, taken-few (q .lengths .bindings) (q .bindings))) ∙ p .bindings z i h)
+      (λ z i h. guard-kept cells id r c short j other i (omega (arith, few .guards, taken-few (q .lengths .guards) (q .guards))) ∙ p .guards z i h)
+      (λ z i h. head-kept cells id r c short j other i (omega (arith, few .heads, taken-few (q .lengths .heads) (q .heads))) ∙ p .heads z i h)

@@ -5,6 +5,7 @@ use mathlib.Core.Bool.{cond}
 use mathlib.Core.List.{List, [], _∷_}
 use lib.Dec.{eqb}
 use lib.ListN.{getD}
+use Rattle.integers.specs.Lists.{from}
 use Rattle.store.specs.declared.Context.{Context}
 use Rattle.store.specs.declared.Context.the-variants.{None, Some}
 use Rattle.rules.specs.declared.AggregateFunction.{AggregateFunction}
@@ -42,7 +43,7 @@ contextOf mark number = cond (eqb mark 0) None (Some number)
 -- ---- the row of an id
 
 unfoldable pub slotsAt : List ℕ → ℕ → ℕ
-slotsAt cells id = getD cells (row * id) 0
+slotsAt cells id = min (getD cells (row * id) 0) 16
 
 unfoldable pub contextAt : List ℕ → ℕ → Context
 contextAt cells id = contextOf (getD cells (row * id + 1) 0) (getD cells (row * id + 2) 0)
@@ -74,3 +75,13 @@ guardAt cells id j = guardFrom cells (row * id + 134 + 4 * j)
 
 unfoldable pub headAt : List ℕ → ℕ → ℕ → Head
 headAt cells id j = headFrom cells (row * id + 262 + 2 * j)
+
+-- all that a row has
+abbrev pub bindingsAt : List ℕ → ℕ → List Binding
+bindingsAt cells id = from (bindingAt cells id) 0 (bindingCount cells id)
+
+abbrev pub guardsAt : List ℕ → ℕ → List Guard
+guardsAt cells id = from (guardAt cells id) 0 (guardCount cells id)
+
+abbrev pub headsAt : List ℕ → ℕ → List Head
+headsAt cells id = from (headAt cells id) 0 (headCount cells id)

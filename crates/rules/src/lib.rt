@@ -393,7 +393,7 @@ pub fn slots_at(cells: &[u32], id: usize) -> u64
     ensures { λ r. ⌜ r ≡ slotsAt (now (cells .entry)) id ⌝ }
 {
     let at = start(cells.len(), id);
-    cells::cell_at(cells, at) as u64
+    at_most(cells::cell_at(cells, at), 16) as u64
 }
 
 pub fn context_at(cells: &[u32], id: usize) -> Context
