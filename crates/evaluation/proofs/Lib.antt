@@ -1,0 +1,4 @@
+pub mod CodeLaws
+pub mod Formed
+pub mod Live
+pub mod Steady

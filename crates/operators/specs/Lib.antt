@@ -1,0 +1,3 @@
+pub mod Arithmetic
+pub mod Literal
+pub mod Answers
