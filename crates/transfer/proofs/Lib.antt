@@ -1,0 +1,3 @@
+pub mod CodeLaws
+pub mod Steady
+pub mod Live
