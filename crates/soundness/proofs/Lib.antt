@@ -1,0 +1,9 @@
+pub mod Lies
+pub mod Worth
+pub mod Evaluating
+pub mod Binding
+pub mod Affine
+pub mod Guarding
+pub mod Firing
+pub mod Stored
+pub mod StoredLive
