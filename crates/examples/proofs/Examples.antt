@@ -24,4 +24,4 @@ p and q = (p, q)
 -- one `refl` for each row
 pub examples : Every table
 unfolding minZ maxZ number? inserted padded chargeOf pure after _>>=_ _>>_ mapped through work retain release hullOf meetOf checkedOf push takeOne collect join charge encode decode valueAt put seek seekNumber insert cost settle enter enterNumber around bottoms provenance joined seed seedEnds seedIntervalCall
-examples = refl and refl and refl and refl and refl and refl and refl and tt
+examples = refl and refl and refl and refl and refl and refl and refl and refl and tt

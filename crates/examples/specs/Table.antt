@@ -12,7 +12,7 @@ use Rattle.limits.specs.Metered.{Run, going, stopped, Metered}
 use Rattle.limits.specs.Meter.{Meter, meter}
 use Rattle.interval.specs.declared.Interval.{Interval}
 use Rattle.interval.specs.declared.Interval.the-variants.{Bottom, Bounded}
-use Rattle.interval.specs.Interval.{hullOf, meetOf, checkedOf}
+use Rattle.interval.specs.Interval.{hullOf, meetOf, endpointsOf, checkedOf}
 use Rattle.interval.specs.Bound.{topOf}
 use Rattle.lattice.specs.declared.Widening.the-variants.{ValueWidth}
 use Rattle.lattice.specs.declared.Reason.the-variants.{None, Some}
@@ -23,6 +23,7 @@ use Rattle.store.specs.declared.Phase.the-variants.{Open}
 use Rattle.store.specs.Store.{withPredicate, empty}
 use Rattle.store.specs.Calls.{bottoms}
 use Rattle.seeds.specs.Seed.{IntervalTables, intervalTables, seedIntervalCall}
+use Rattle.affine.specs.Affine.{solvedReversed}
 
 infix 5 _is_
 pub data Example : Type 1 where
@@ -95,4 +96,6 @@ table =
     (seeding 3 3 is accepted) ∷
     -- K7 "4..3 refused by 5"
     (seeding 4 3 is refusedBy 5) ∷
+    -- K10 "10 − slot in 0..4: slot 6..10"
+    (solvedReversed (pos 10) (endpointsOf (0 ‥ 4)) is 6 ‥ 10) ∷
     []
