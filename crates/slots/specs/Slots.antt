@@ -90,7 +90,7 @@ meetArgument constants arguments (Assign slot value) = pure tt
 meetArgument constants arguments (Range slot low high) = pure tt
 meetArgument constants arguments (Aggregate slot function) = pure tt
 
--- a slot without a list has it from its argument, whatever the reason was before
+-- the reason of a slot without a list is then that it depends on an argument, whatever it was before
 abbrev pub marked : List ℕ → ℕ → Option (List ℕ) → List ℕ
 marked rows slot none = put rows slot (value (valueAt rows slot .bound) none (Some Dependency))
 marked rows slot (some l) = rows

@@ -227,7 +227,7 @@ pub fn meet_arguments(
     Counted::Going(spent, live)
 }
 
-// A slot without a list has that from its argument.
+// The reason of a slot without a list: it depends on an argument.
 fn depend(cells: &mut [u32], slot: usize)
     ensures { λ _. ⌜ now (cells .exit) ≡ marked (now (cells .entry)) slot (valueAt (now (cells .entry)) slot .values) ⌝ }
 {
