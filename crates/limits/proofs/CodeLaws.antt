@@ -18,7 +18,7 @@ use Rattle.limits.specs.Charge.{stopOf, chargeOf}
 use Rattle.limits.specs.Records.{limitOf, countOf, withCount, withWidened, withStatistics}
 use Rattle.limits.specs.Metered.{Run, going, stopped, Metered, mapped, through}
 use Rattle.limits.specs.Budget.{charge, charged, released, widenedOnce, ran}
-use Rattle.limits.specs.Meter.{Meter, meter, holding, dropping}
+use Rattle.limits.specs.Meter.{Meter, meter, withMeter, holding, dropping}
 use Rattle.limits.specs.Meter as inner
 
 module _ (r : Resource) (old amount limit : ℕ) where
@@ -125,3 +125,9 @@ module _ {A : Type 0} (n : ℕ) (c : Metered Stop Meter A) (m : Meter) where
   pub drop-stop : {s : Stop} {m′ : Meter} → stopped s m′ ≡ c m → stopped s (inner.released n m′) ≡ dropping n c m
   unfolding through mapped
   drop-stop h = rw (← h)
+
+-- ---- what is charged in numbers
+
+pub meter-is : (w e : ℕ) (b : Budget) {c d : Budget} → c ≡ withStatistics (withCount ValueEntries e (b .statistics)) b → d ≡ withStatistics (withCount Work w (c .statistics)) c →
+    d ≡ withMeter (meter w (b .limits .work) e (b .limits .entries)) b
+meter-is w e b p q = rw (q, p)

@@ -6,6 +6,7 @@ ghost use Rattle.limits.specs.Charge.{chargeOf};
 ghost use Rattle.limits.specs.Records.{countOf, limitOf, withCount, withStatistics, fresh};
 ghost use Rattle.limits.specs.Refusal.{resourceNumber, told};
 ghost use Rattle.limits.specs.Budget.{ran, charge, released, widenedOnce};
+ghost use Rattle.limits.specs.Meter.{meter, withMeter};
 
 // Inclusive ceilings. Beside each stands its name in limits.rs.
 pub struct Limits {
@@ -261,6 +262,14 @@ impl Budget {
             limits,
             statistics: statistics.with(resource, count),
         }
+    }
+
+    // The same budget with what was charged in numbers.
+    pub fn with_meter(self, work: u64, entries: u64) -> Budget
+        ensures { λ r. ⌜ r ≡ withMeter (meter work (self .limits .work) entries (self .limits .entries)) self ⌝ }
+    {
+        let held = self.with(Resource::ValueEntries, entries);
+        held.with(Resource::Work, work)
     }
 
     // The seven charges, by their resource. A refused one changes nothing.

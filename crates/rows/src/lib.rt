@@ -118,7 +118,7 @@ pub fn abstract_at(cells: &[u32], row: usize) -> Abstract
     }
 }
 
-fn integrality_cell(integrality: Integrality) -> u32
+pub fn integrality_cell(integrality: Integrality) -> u32
     ensures { λ r. ⌜ r ≡ integralityCell integrality ⌝ }
 {
     match integrality {

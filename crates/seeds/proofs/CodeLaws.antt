@@ -9,13 +9,11 @@ use borrow.Author.Tests.{eq-eqb, ne-eqb, le-leb, lt-leb}
 use lib.Dec.{eqb}
 use lib.IntN.{ℤ}
 use lib.ListN.{length, take, length-take}
-use Rattle.limits.specs.declared.Resource.the-variants.{Work, ValueEntries}
 use Rattle.limits.specs.declared.Stop.{Stop}
 use Rattle.limits.specs.declared.Budget.{Budget}
 use Rattle.limits.specs.declared.Refusal.{Refusal}
 use Rattle.limits.specs.declared.Refusal.the-variants.{Limit}
 use Rattle.limits.specs.Refusal.{Told, told}
-use Rattle.limits.specs.Records.{withCount, withStatistics}
 use Rattle.limits.specs.Metered.{Run, going, stopped, Metered, _>>_, mapped, through}
 use Rattle.limits.specs.Meter.{meter, meterOf, withMeter, holding}
 use Rattle.limits.specs.Budget.{released, widenedOnce}
@@ -67,12 +65,6 @@ module _ (old v new : Value) (b : Budget) {m n : ℕ} (p : m ≡ entriesOf old) 
 
   pub drop-kept : t ≡ false → r ≡ released (m + n) b → r ≡ dropped old v new b
   drop-kept e d = rw (d, ← l, e, p, q)
-
--- ---- what is charged in numbers
-
-pub meter-is : (w e : ℕ) (b : Budget) {c d : Budget} → c ≡ withStatistics (withCount ValueEntries e (b .statistics)) b → d ≡ withStatistics (withCount Work w (c .statistics)) c →
-    d ≡ withMeter (meter w (b .limits .work) e (b .limits .entries)) b
-meter-is w e b p q = rw (q, p)
 
 -- ---- a join
 

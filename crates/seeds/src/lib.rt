@@ -11,7 +11,6 @@ use store::Store;
 ghost use mathlib.Core.Path.{_≡_};
 ghost use Prim.Native.Nat.{_+_, _≤_};
 ghost use lib.ListN.{length};
-ghost use Rattle.limits.specs.Meter.{meter, withMeter};
 ghost use Rattle.lattice.specs.Value.{valueOf};
 ghost use Rattle.seeds.specs.Seed.{loses, dropped, joined, seed, constantValue, seedConstant, sizes, spacious, tables, intervalTables, seedValueCall, seedIntervalCall};
 ghost use Rattle.seeds.specs.Answers.{Makes, Seeds, Marked, SeedsEnds, onTables, onIntervalTables};
@@ -24,7 +23,7 @@ pub struct Joined {
 }
 
 // Whether the list is lost on the way from one value to another.
-fn is_lost(old: Abstract, new: Abstract) -> bool
+pub fn is_lost(old: Abstract, new: Abstract) -> bool
     ensures { λ r. ⌜ r ≡ loses (valueOf old .values) (valueOf new .values) ⌝ }
 {
     if old.kept {
@@ -43,14 +42,6 @@ fn drop_both(budget: Budget, old: Abstract, value: Abstract, new: Abstract) -> B
         return counted.release(held);
     }
     budget.release(held)
-}
-
-// The budget with what was charged in numbers.
-fn with_meter(budget: Budget, work: u64, entries: u64) -> Budget
-    ensures { λ r. ⌜ r ≡ withMeter (meter work (budget .limits .work) entries (budget .limits .entries)) budget ⌝ }
-{
-    let held = budget.with(Resource::ValueEntries, entries);
-    held.with(Resource::Work, work)
 }
 
 // The old seed joined with a value, which is dropped on every way out.
@@ -75,11 +66,11 @@ fn join_seed(old: Abstract, value: Abstract, budget: Budget) -> Joined
             Joined {
                 outcome,
                 value: new,
-                budget: with_meter(budget, made.work, left),
+                budget: budget.with_meter(made.work, left),
             }
         }
         Outcome::Done => {
-            let paid = with_meter(budget, made.work, made.entries);
+            let paid = budget.with_meter(made.work, made.entries);
             Joined {
                 outcome,
                 value: new,
@@ -125,7 +116,7 @@ fn constant_value(constants: &[u32], id: u16, budget: Budget) -> Joined
     Joined {
         outcome,
         value,
-        budget: with_meter(budget, made.work, made.entries),
+        budget: budget.with_meter(made.work, made.entries),
     }
 }
 

@@ -28,6 +28,9 @@ withBudget b s = record { budget = b; counts = s .counts; context = s .context; 
 abbrev pub withContext : Context → Store → Store
 withContext c s = record { budget = s .budget; counts = s .counts; context = c; phase = s .phase }
 
+abbrev pub withPhase : Phase → Store → Store
+withPhase p s = record { budget = s .budget; counts = s .counts; context = s .context; phase = p }
+
 abbrev pub withCounts : Counts → Store → Store
 withCounts n s = record { budget = s .budget; counts = n; context = s .context; phase = s .phase }
 

@@ -1,0 +1,3 @@
+pub mod Run
+pub mod Call
+pub mod Answers
