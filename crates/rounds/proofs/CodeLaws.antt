@@ -16,8 +16,8 @@ use Rattle.limits.specs.declared.Billed.{Billed}
 use Rattle.limits.specs.declared.Billed.the-variants as billed
 use Rattle.limits.specs.Charge.{chargeOf}
 use Rattle.limits.specs.Records.{withCount, withStatistics}
-use Rattle.limits.specs.Metered.{Run, going, stopped, Metered, pure, _>>=_, _>>_, mapped, through}
-use Rattle.limits.specs.Meter.{Meter, meter, work, meterOf, withMeter}
+use Rattle.limits.specs.Metered.{Run, going, stopped, Metered, pure, _>>_, mapped, through}
+use Rattle.limits.specs.Meter.{meter, work, meterOf, withMeter}
 use Rattle.limits.specs.Budget.{round, released}
 use Rattle.limits.specs.Budget as limits
 use Rattle.limits.proofs.Monad.{bind-stop, bind-on, then-stop, then-on, through-on, through-stop, through-is}
@@ -143,11 +143,11 @@ abbrev within : Context → Run Stop (Budget × List ℕ) (Unit {0}) → Run Sto
 within c (going tt s) = going tt (standing (s .0) c (s .1))
 within c (stopped e s) = stopped e (standing (s .0) c (s .1))
 
-within-is : (c : Context) (b : Budget) (rows : List ℕ) (y : Run Stop Slots (Unit {0})) →
+within-is : (c : Context) (b : Budget) (y : Run Stop Slots (Unit {0})) →
     within c (inBudget b y) ≡ mapped (λ t. standing (withMeter (t .meter) b) c (t .rows)) (λ t. standing (withMeter (t .meter) b) c (t .rows)) (λ e. e) y
 unfolding mapped
-within-is c b rows (going tt s) = refl
-within-is c b rows (stopped e s) = refl
+within-is c b (going tt s) = refl
+within-is c b (stopped e s) = refl
 
 -- the limits of the budget that is left are those that it came from had
 abbrev limitsIn : Run Stop (Budget × List ℕ) (Unit {0}) → Limits
@@ -161,7 +161,7 @@ limits-stay b (stopped e s) = refl
 module _ (m : Metered Stop Slots (Unit {0})) (b : Budget) (c : Context) (rows : List ℕ) {r : Billed} {rows′ : List ℕ} (h : Bills m b rows r rows′) where
   tabled : within c (billed-with r rows′) ≡ inTable m (standing b c rows)
   unfolding through
-  tabled = ap (within c) (h .is) ∙ within-is c b rows (m (slots (meterOf b) rows))
+  tabled = ap (within c) (h .is) ∙ within-is c b (m (slots (meterOf b) rows))
 
   pub table-stopped : {stop : Stop} {kept : Budget} → r ≡ billed.Stopped stop kept → stopped stop (standing kept c rows′) ≡ inTable m (standing b c rows)
   table-stopped q = sym (ap (λ (y : Billed). within c (billed-with y rows′)) q) ∙ tabled

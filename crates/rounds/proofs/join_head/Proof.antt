@@ -1,60 +1,62 @@
-use Rattle.evaluation.specs.Evaluation.{input}
+-- `rounds::join_head` meets its contract.
+use borrow.Author.Needs.{needs}
 use Rattle.slots.proofs.CodeLaws.{step-stopped}
+use Rattle.evaluation.specs.Evaluation.{input}
 use Rattle.rounds.specs.Round.{joinHead}
 use Rattle.rounds.proofs.CodeLaws.{head-stopped, head-made}
-use borrow.Author.Needs.{needs}
-use native.Mathlib.Omega.{arith}
 use Rattle.rounds.proofs.join_head.Statement.{statement}
 use Rattle.rounds.proofs.join_head.Tie as tie
-use Rattle.rounds.proofs.join_head.Reads as reads
-use Rattle.rounds.proofs.join_head.Lts as lts
-use Rattle.limits.proofs.charge.Reads as charge-reads
-use Rattle.rounds.proofs.join_owned.Reads as join-owned-reads
-use Rattle.transfer.proofs.head.Reads as head-reads
 
--- src/lib.rt:143:11
 charge-requires : tie.Need-charge-requires
 charge-requires c κs = search needs
 
--- src/lib.rt:144:26
 enum-known-stop : tie.Need-enum-known-stop
 enum-known-stop c = search needs
 
--- src/lib.rt:145:23
 enum-known-now : tie.Need-enum-known-now
 enum-known-now c = search needs
 
--- src/lib.rt:146:17
 head-requires : tie.Need-head-requires
 head-requires c κs = search needs
 
--- src/lib.rt:162:34
 enum-known-outcome : tie.Need-enum-known-outcome
 enum-known-outcome c = search needs
 
--- src/lib.rt:164:21
 enum-told : tie.Need-enum-told
 enum-told c = search needs
 
--- src/lib.rt:163:34
 join-owned-requires : tie.Need-join-owned-requires
 join-owned-requires c κs = search needs
 
--- src/lib.rt:127:1
 returns : tie.Need-returns
-returns c = step-stopped (joinHead (input (c .before .before .before .before .before .before .before .before .before .args .nodes .now) (c .before .before .before .before .before .before .before .before .before .args .constants .now) (c .before .before .before .before .before .before .before .before .before .args .width)) (c .before .before .before .before .before .before .before .before .before .args .produced .now) (c .before .before .before .before .before .before .before .before .before .args .refinements .now) (c .before .before .before .before .before .before .before .before .before .args .recorded) (c .before .before .before .before .before .before .before .before .before .args .head)) (c .before .before .before .before .before .before .before .before .before .args .work) (c .before .before .before .before .before .before .before .before .before .args .max-work) (c .before .before .before .before .before .before .before .before .before .args .entries) (c .before .before .before .before .before .before .before .before .before .args .max-entries) (c .before .before .before .before .before .before .before .before .before .args .result .now) (c .before .before .before .charge .ensures) (c .before .stop .given .1)
+returns c =
+    let c₃ = c .before .before .before in
+    let c₉ = c₃ .before .before .before .before .before .before in
+    let a = c₉ .args in
+    step-stopped (joinHead (input (a .nodes .now) (a .constants .now) (a .width)) (a .produced .now) (a .refinements .now) (a .recorded) (a .head)) (a .work) (a .max-work) (a .entries) (a .max-entries) (a .result .now) (c₃ .charge .ensures) (c .before .stop .given .1)
 
--- src/lib.rt:127:1
 returns-2 : tie.Need-returns-2
-returns-2 c = head-stopped (input (c .before .before .before .before .before .before .before .before .before .before .before .before .before .before .args .nodes .now) (c .before .before .before .before .before .before .before .before .before .before .before .before .before .before .args .constants .now) (c .before .before .before .before .before .before .before .before .before .before .before .before .before .before .args .width)) (c .before .before .before .before .before .before .before .before .before .before .before .before .before .before .args .produced .now) (c .before .before .before .before .before .before .before .before .before .before .before .before .before .before .args .refinements .now) (c .before .before .before .before .before .before .before .before .before .before .before .before .before .before .args .recorded) (c .before .before .before .before .before .before .before .before .before .before .before .before .before .before .args .head) (c .before .before .before .before .before .before .before .before .before .before .before .before .before .before .args .work) (c .before .before .before .before .before .before .before .before .before .before .before .before .before .before .args .max-work) (c .before .before .before .before .before .before .before .before .before .before .before .before .before .before .args .entries) (c .before .before .before .before .before .before .before .before .before .before .before .before .before .before .args .max-entries) (c .before .before .before .before .before .before .before .before .before .before .before .before .before .before .args .result .now) (c .before .before .before .before .before .before .before .before .charge .ensures) (c .before .before .before .before .before .before .now .given .1) (c .before .before .before .before .head .result) (c .before .before .before .before .head .ensures) (c .before .outcome .given .1)
+returns-2 c =
+    let c₄ = c .before .before .before .before in
+    let c₆ = c₄ .before .before in
+    let c₈ = c₆ .before .before in
+    let c₁₄ = c₈ .before .before .before .before .before .before in
+    let a = c₁₄ .args in
+    head-stopped (input (a .nodes .now) (a .constants .now) (a .width)) (a .produced .now) (a .refinements .now) (a .recorded) (a .head) (a .work) (a .max-work) (a .entries) (a .max-entries) (a .result .now) (c₈ .charge .ensures) (c₆ .now .given .1) (c₄ .head .result) (c₄ .head .ensures) (c .before .outcome .given .1)
 
--- src/lib.rt:127:1
 same-length : tie.Need-same-length
 same-length c = search needs
 
--- src/lib.rt:127:1
 returns-3 : tie.Need-returns-3
-returns-3 c = head-made (input (c .before .before .before .before .before .before .before .before .before .before .before .before .before .before .before .before .before .args .nodes .now) (c .before .before .before .before .before .before .before .before .before .before .before .before .before .before .before .before .before .args .constants .now) (c .before .before .before .before .before .before .before .before .before .before .before .before .before .before .before .before .before .args .width)) (c .before .before .before .before .before .before .before .before .before .before .before .before .before .before .before .before .before .args .produced .now) (c .before .before .before .before .before .before .before .before .before .before .before .before .before .before .before .before .before .args .refinements .now) (c .before .before .before .before .before .before .before .before .before .before .before .before .before .before .before .before .before .args .recorded) (c .before .before .before .before .before .before .before .before .before .before .before .before .before .before .before .before .before .args .head) (c .before .before .before .before .before .before .before .before .before .before .before .before .before .before .before .before .before .args .work) (c .before .before .before .before .before .before .before .before .before .before .before .before .before .before .before .before .before .args .max-work) (c .before .before .before .before .before .before .before .before .before .before .before .before .before .before .before .before .before .args .entries) (c .before .before .before .before .before .before .before .before .before .before .before .before .before .before .before .before .before .args .max-entries) (c .before .before .before .before .before .before .before .before .before .before .before .before .before .before .before .before .before .args .result .now) (c .before .before .before .before .before .before .before .before .before .before .before .charge .ensures) (c .before .before .before .before .before .before .before .before .before .now .given .1) (c .before .before .before .before .before .before .before .head .result) (c .before .before .before .before .before .before .before .head .ensures) (c .before .before .before .before .enum-told .given .1) (c .before .before .join-owned .ensures)
+returns-3 c =
+    let c₂ = c .before .before in
+    let c₄ = c₂ .before .before in
+    let c₇ = c₄ .before .before .before in
+    let c₉ = c₇ .before .before in
+    let c₁₁ = c₉ .before .before in
+    let c₁₇ = c₁₁ .before .before .before .before .before .before in
+    let a = c₁₇ .args in
+    head-made (input (a .nodes .now) (a .constants .now) (a .width)) (a .produced .now) (a .refinements .now) (a .recorded) (a .head) (a .work) (a .max-work) (a .entries) (a .max-entries) (a .result .now) (c₁₁ .charge .ensures) (c₉ .now .given .1) (c₇ .head .result) (c₇ .head .ensures) (c₄ .enum-told .given .1) (c₂ .join-owned .ensures)
 
 pub join-head-spec : {M : Type 1} → statement M
 join-head-spec =
