@@ -116,14 +116,7 @@ fn threshold_above(thresholds: &[i32], high: i32, work: u64, max_work: u64) -> M
 }
 
 // The low side: counted the first two times that it grows, and moved to a threshold later.
-fn widen_low(
-    thresholds: &[i32],
-    old: i32,
-    low: i32,
-    grown: u32,
-    work: u64,
-    max_work: u64,
-) -> Sided
+fn widen_low(thresholds: &[i32], old: i32, low: i32, grown: u32, work: u64, max_work: u64) -> Sided
     ensures { λ r. ⌜ Sides (widenLow (now (thresholds .entry)) old low grown) work «max_work» r ⌝ }
 {
     if old <= low {
