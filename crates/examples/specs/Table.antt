@@ -79,7 +79,7 @@ accepted = none
 abbrev pub refusedBy : ℕ → Option Told
 refusedBy n = some record { number = n; values = [] }
 
--- from the old interval to the new one, whose low side has not grown before and whose high side has so often
+-- from the old interval to the new one by thresholds 2 and 9; the low side has not grown before, the high side so often
 abbrev pub widening : Interval → Interval → ℕ → Option Wide
 widening old new growths = run (widen (pos 2 ∷ pos 9 ∷ []) old new (growth 0 growths))
 
