@@ -15,6 +15,7 @@ use Rattle.thresholds.specs.Thresholds.{seekNumber, insert, cost, settle, enter
 use Rattle.store.specs.Calls.{bottoms}
 use Rattle.provenance.specs.Provenance.{provenance}
 use Rattle.seeds.specs.Seed.{joined, seed, seedEnds, seedIntervalCall}
+use Rattle.widening.specs.Widening.{nearest, below, above, widenLow, widenHigh, widen}
 use Rattle.examples.specs.Table.{Every, table}
 
 infixr 5 _and_
@@ -23,5 +24,5 @@ p and q = (p, q)
 
 -- one `refl` for each row
 pub examples : Every table
-unfolding minZ maxZ number? inserted padded chargeOf pure after _>>=_ _>>_ mapped through work retain release hullOf meetOf checkedOf push takeOne collect join charge encode decode valueAt put seek seekNumber insert cost settle enter enterNumber around bottoms provenance joined seed seedEnds seedIntervalCall
-examples = refl and refl and refl and refl and refl and refl and refl and refl and tt
+unfolding minZ maxZ number? inserted padded chargeOf pure after _>>=_ _>>_ mapped through work retain release hullOf meetOf checkedOf push takeOne collect join charge encode decode valueAt put seek seekNumber insert cost settle enter enterNumber around bottoms provenance joined seed seedEnds seedIntervalCall nearest below above widenLow widenHigh widen
+examples = refl and refl and refl and refl and refl and refl and refl and refl and refl and refl and tt

@@ -24,6 +24,7 @@ use Rattle.store.specs.Store.{withPredicate, empty}
 use Rattle.store.specs.Calls.{bottoms}
 use Rattle.seeds.specs.Seed.{IntervalTables, intervalTables, seedIntervalCall}
 use Rattle.affine.specs.Affine.{solvedReversed}
+use Rattle.widening.specs.Widening.{growth, Wide, wide, widen}
 
 infix 5 _is_
 pub data Example : Type 1 where
@@ -78,6 +79,10 @@ accepted = none
 abbrev pub refusedBy : ℕ → Option Told
 refusedBy n = some record { number = n; values = [] }
 
+-- from the old interval to the new one by thresholds 2 and 9; the low side has not grown before, the high side so often
+abbrev pub widening : Interval → Interval → ℕ → Option Wide
+widening old new growths = run (widen (pos 2 ∷ pos 9 ∷ []) old new (growth 0 growths))
+
 -- ---- the table
 
 abbrev pub table : List Example
@@ -96,6 +101,10 @@ table =
     (seeding 3 3 is accepted) ∷
     -- K7 "4..3 refused by 5"
     (seeding 4 3 is refusedBy 5) ∷
+    -- K8 "old 0..2, new 0..3, two growths, thresholds 2, 9: 0..9"
+    (widening (0 ‥ 2) (0 ‥ 3) 2 is some (wide (0 ‥ 9) (growth 0 2))) ∷
+    -- K9 "one growth: 0..3"
+    (widening (0 ‥ 2) (0 ‥ 3) 1 is some (wide (0 ‥ 3) (growth 0 2))) ∷
     -- K10 "10 − slot in 0..4: slot 6..10"
     (solvedReversed (pos 10) (endpointsOf (0 ‥ 4)) is 6 ‥ 10) ∷
     []

@@ -1,2 +1,3 @@
 pub mod Widening
 pub mod Answers
+pub mod Rule
