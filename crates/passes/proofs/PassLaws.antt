@@ -9,13 +9,21 @@ use Rattle.limits.specs.declared.Stop.{Stop}
 use Rattle.limits.specs.declared.Budget.{Budget}
 use Rattle.limits.specs.Metered.{Run, going, stopped, Metered, pure, _>>=_}
 use Rattle.limits.specs.Budget.{released}
-use Rattle.limits.proofs.Monad.{through-on, through-stop}
+use Rattle.limits.proofs.Monad.{bind-on, bind-stop, through-on, through-stop}
 use Rattle.limits.proofs.Onward.{Onward, onward-begins, bind-stops, bind-goes}
 use Rattle.slots.specs.Slots.{total}
+use Rattle.store.specs.declared.Context.{Context}
+use Rattle.rounds.specs.declared.Ran.{Ran}
+use Rattle.rounds.specs.declared.Ran.the-variants.{Done, Stopped}
+use Rattle.rounds.specs.Round.{Given, standing, course, image, blank, candidatesOf, candidates, moved}
+use Rattle.rounds.specs.Answers.{ran}
 use Rattle.passes.specs.declared.Advanced.{Advanced}
 use Rattle.passes.specs.declared.Advanced.the-variants as advanced
 use Rattle.passes.specs.Step.{Steps, steps, step, holdingNext, advance}
-use Rattle.passes.specs.Answers.{advancedTo}
+use Rattle.passes.specs.declared.Passed.the-variants.{Settled, Changed}
+use Rattle.passes.specs.declared.Passed.the-variants as passed
+use Rattle.passes.specs.Pass.{Ascent, ascent, inCourse, replaced, renew, pass}
+use Rattle.passes.specs.Answers.{advancedTo, passedTo}
 
 -- ---- the arguments of a pass
 
@@ -52,3 +60,43 @@ module _ (thresholds : List ℤ) (current candidates : List ℕ) where
     advance-goes q =
         bind-goes h (one k) (others (k + 1) (count - (k + 1)) changed) (advance-next changed l)
         (through-on _ _ _ _ (step thresholds current candidates k) (steps b next growth) (sym (ap (λ (y : Advanced). advancedTo y next′ growth′) q) ∙ p))
+
+-- ---- the current values renewed
+
+module _ (n : ℕ) (thresholds : List ℤ) (cs current growth : List ℕ) (b : Budget) (c : Context) {x : Advanced} (next growth′ : List ℕ)
+    (h : advancedTo x next growth′ ≡ advance thresholds current cs 0 n false (steps b blank growth)) where
+  renewed : (y : Advanced) → x ≡ y → replaced n cs (ascent b c current growth) (advancedTo y next growth′) ≡ renew n thresholds cs (ascent b c current growth)
+  unfolding renew
+  renewed y q = sym (ap (λ (y : Advanced). replaced n cs (ascent b c current growth) (advancedTo y next growth′)) q) ∙ ap (replaced n cs (ascent b c current growth)) h
+
+  pub renew-stopped : {stop : Stop} {kept left : Budget} → x ≡ advanced.Stopped stop kept → left ≡ released (total cs n) kept →
+      passedTo (passed.Stopped stop left c) current growth′ ≡ renew n thresholds cs (ascent b c current growth)
+  renew-stopped q r = rw r (renewed _ q)
+
+  module _ {changed : Bool} {left fewer kept : Budget} {current′ : List ℕ} (q : x ≡ advanced.Done changed left) (f : fewer ≡ released (total cs n) left) (k : kept ≡ released (total current n) fewer)
+      (m : current′ ≡ moved next n current) where
+    pub renew-changed : changed ≡ true → passedTo (Changed kept c) current′ growth′ ≡ renew n thresholds cs (ascent b c current growth)
+    renew-changed t = rw (k, f, m, ← t) (renewed _ q)
+
+    pub renew-settled : changed ≡ false → passedTo (Settled kept c) current′ growth′ ≡ renew n thresholds cs (ascent b c current growth)
+    renew-settled t = rw (k, f, m, ← t) (renewed _ q)
+
+-- ---- a pass
+
+module _ (g : Given) (thresholds : List ℤ) (b : Budget) (c : Context) (current growth : List ℕ) {x : Ran} (cs : List ℕ) (h : ran x cs ≡ image g current (standing b c blank)) where
+  made : (y : Ran) → x ≡ y → candidatesOf (ran y cs) ≡ candidates g current (course b c)
+  unfolding candidates
+  made y q = sym (ap (λ (y : Ran). candidatesOf (ran y cs)) q) ∙ ap candidatesOf h
+
+  pub pass-stopped : {stop : Stop} {kept : Budget} {force : Context} → x ≡ Stopped stop kept force → passedTo (passed.Stopped stop kept force) current growth ≡ pass g thresholds (ascent b c current growth)
+  unfolding pass
+  pass-stopped q =
+      bind-stop (inCourse (candidates g current)) (ascent b c current growth) (renew (g .positions) thresholds)
+      (through-stop _ _ _ _ (candidates g current) (ascent b c current growth) (made _ q))
+
+  pub pass-on : {paid : Budget} {force : Context} {y : Run Stop Ascent Bool} → x ≡ Done paid force → y ≡ renew (g .positions) thresholds cs (ascent paid force current growth) →
+      y ≡ pass g thresholds (ascent b c current growth)
+  unfolding pass
+  pass-on q k =
+      bind-on (inCourse (candidates g current)) (ascent b c current growth) (renew (g .positions) thresholds)
+      (through-on _ _ _ _ (candidates g current) (ascent b c current growth) (made _ q)) k
