@@ -1,2 +1,3 @@
 pub mod StepLaws
+pub mod Rounds
 pub mod PassLaws

@@ -5,25 +5,29 @@ use mathlib.Core.Path.{_≡_, refl, sym, ap, _∙_}
 use mathlib.Core.Bool.{Bool, true, false, cond, _||_}
 use mathlib.Core.List.{List}
 use lib.IntN.{ℤ}
+use Rattle.limits.specs.declared.Limits.{Limits}
 use Rattle.limits.specs.declared.Stop.{Stop}
 use Rattle.limits.specs.declared.Budget.{Budget}
 use Rattle.limits.specs.Metered.{Run, going, stopped, Metered, pure, _>>=_}
 use Rattle.limits.specs.Budget.{released}
-use Rattle.limits.proofs.Monad.{bind-on, bind-stop, through-on, through-stop}
-use Rattle.limits.proofs.Onward.{Onward, onward-begins, bind-stops, bind-goes}
+use Rattle.limits.proofs.Monad.{pure-is, bind-on, bind-stop, through-on, through-stop}
+use Rattle.limits.proofs.Onward.{Onward, onward-begins, onward-is, bind-stops, bind-goes}
 use Rattle.slots.specs.Slots.{total}
 use Rattle.store.specs.declared.Context.{Context}
 use Rattle.rounds.specs.declared.Ran.{Ran}
 use Rattle.rounds.specs.declared.Ran.the-variants.{Done, Stopped}
 use Rattle.rounds.specs.Round.{Given, standing, course, image, blank, candidatesOf, candidates, moved}
 use Rattle.rounds.specs.Answers.{ran}
+use Rattle.rounds.proofs.Pays.{Pays}
 use Rattle.passes.specs.declared.Advanced.{Advanced}
 use Rattle.passes.specs.declared.Advanced.the-variants as advanced
 use Rattle.passes.specs.Step.{Steps, steps, step, holdingNext, advance}
+use Rattle.passes.specs.declared.Passed.{Passed}
 use Rattle.passes.specs.declared.Passed.the-variants.{Settled, Changed}
 use Rattle.passes.specs.declared.Passed.the-variants as passed
-use Rattle.passes.specs.Pass.{Ascent, ascent, inCourse, replaced, renew, pass}
-use Rattle.passes.specs.Answers.{advancedTo, passedTo}
+use Rattle.passes.specs.Pass.{Ascent, ascent, inCourse, replaced, renew, pass, ascend}
+use Rattle.passes.specs.Answers.{advancedTo, passedTo, ascended}
+use Rattle.passes.proofs.Rounds.{left, fewer-left, more, pass-pays, ascend-any, ascend-first}
 
 -- ---- the arguments of a pass
 
@@ -100,3 +104,44 @@ module _ (g : Given) (thresholds : List ℤ) (b : Budget) (c : Context) (current
   pass-on q k =
       bind-on (inCourse (candidates g current)) (ascent b c current growth) (renew (g .positions) thresholds)
       (through-on _ _ _ _ (candidates g current) (ascent b c current growth) (made _ q)) k
+
+-- ---- the ascent
+
+module _ (g : Given) (thresholds : List ℤ) (s : Ascent) where
+  ascend-stops : {stop : Stop} {t : Ascent} → stopped stop t ≡ pass g thresholds s → stopped stop t ≡ ascend g thresholds s
+  ascend-stops k = bind-stop (pass g thresholds) s (more g thresholds (left (s .budget))) k ∙ sym (ascend-first g thresholds s)
+
+  ascend-settles : {t : Ascent} → going false t ≡ pass g thresholds s → going tt t ≡ ascend g thresholds s
+  ascend-settles {t} k = bind-on (pass g thresholds) s (more g thresholds (left (s .budget))) k (pure-is tt t) ∙ sym (ascend-first g thresholds s)
+
+  -- a pass that changes something has left the ascent from there
+  ascend-more : {t : Ascent} → going true t ≡ pass g thresholds s → ascend g thresholds s ≡ ascend g thresholds t
+  ascend-more {t} k =
+      ascend-first g thresholds s
+      ∙ sym (bind-on (pass g thresholds) s (more g thresholds (left (s .budget))) k (sym (ascend-any g thresholds (left (s .budget)) t (fewer-left (pass-pays g thresholds s k)))))
+
+-- a run's width is that of the limits, which stay
+module _ (at : ℕ → Given) (thresholds : List ℤ) (b₀ : Budget) {s₀ : Ascent} {b : Budget} {c : Context} {current growth : List ℕ} (l : b .limits ≡ b₀ .limits)
+    (h : Onward (ascend (at (b₀ .limits .width)) thresholds) s₀ (ascend (at (b₀ .limits .width)) thresholds) (ascent b c current growth)) {x : Passed} (current′ growth′ : List ℕ)
+    (p : passedTo x current′ growth′ ≡ pass (at (b .limits .width)) thresholds (ascent b c current growth)) where
+  passed-as : (y : Passed) → x ≡ y → passedTo y current′ growth′ ≡ pass (at (b₀ .limits .width)) thresholds (ascent b c current growth)
+  passed-as y q = sym (ap (λ (y : Passed). passedTo y current′ growth′) q) ∙ (p ∙ ap (λ (z : Limits). pass (at (z .width)) thresholds (ascent b c current growth)) l)
+
+  pub ascend-stopped : {stop : Stop} {kept : Budget} {there : Context} → x ≡ passed.Stopped stop kept there → ascended (Stopped stop kept there) current′ growth′ ≡ ascend (at (b₀ .limits .width)) thresholds s₀
+  ascend-stopped q = onward-is h (ascend-stops (at (b₀ .limits .width)) thresholds (ascent b c current growth) (passed-as _ q))
+
+  pub ascend-settled : {done : Budget} {there : Context} → x ≡ Settled done there → ascended (Done done there) current′ growth′ ≡ ascend (at (b₀ .limits .width)) thresholds s₀
+  ascend-settled q = onward-is h (ascend-settles (at (b₀ .limits .width)) thresholds (ascent b c current growth) (passed-as _ q))
+
+  module _ {b′ : Budget} {there : Context} (q : x ≡ Changed b′ there) where
+    paid : Pays b b′
+    paid = pass-pays (at (b₀ .limits .width)) thresholds (ascent b c current growth) (passed-as _ q)
+
+    pub ascend-limits : b′ .limits ≡ b₀ .limits
+    ascend-limits = paid .limits ∙ l
+
+    pub ascend-less : left b′ < left b
+    ascend-less = fewer-left paid
+
+    pub ascend-goes : Onward (ascend (at (b₀ .limits .width)) thresholds) s₀ (ascend (at (b₀ .limits .width)) thresholds) (ascent b′ there current′ growth′)
+    ascend-goes = record { is = h .is ∙ ascend-more (at (b₀ .limits .width)) thresholds (ascent b c current growth) (passed-as _ q) }
