@@ -2,7 +2,7 @@
 use Prim.Native.Nat.{ℕ, suc, _+_, _-_, _≤_, _<_}
 use native.Mathlib.Omega.{arith}
 use mathlib.Core.Path.{_≡_, refl, sym, ap, _∙_}
-use mathlib.Core.Bool.{Bool, true, false, cond, _||_}
+use mathlib.Core.Bool.{Bool, true, false, _||_}
 use mathlib.Core.List.{List}
 use lib.IntN.{ℤ}
 use Rattle.limits.specs.declared.Limits.{Limits}
@@ -11,7 +11,7 @@ use Rattle.limits.specs.declared.Budget.{Budget}
 use Rattle.limits.specs.Metered.{Run, going, stopped, Metered, pure, _>>=_}
 use Rattle.limits.specs.Budget.{released}
 use Rattle.limits.proofs.Monad.{pure-is, bind-on, bind-stop, through-on, through-stop}
-use Rattle.limits.proofs.Onward.{Onward, onward-begins, onward-is, bind-stops, bind-goes}
+use Rattle.limits.proofs.Onward.{Onward, onward-begins, bind-stops, bind-goes}
 use Rattle.slots.specs.Slots.{total}
 use Rattle.store.specs.declared.Context.{Context}
 use Rattle.rounds.specs.declared.Ran.{Ran}
@@ -120,28 +120,31 @@ module _ (g : Given) (thresholds : List ℤ) (s : Ascent) where
       ascend-first g thresholds s
       ∙ sym (bind-on (pass g thresholds) s (more g thresholds (left (s .budget))) k (sym (ascend-any g thresholds (left (s .budget)) t (fewer-left (pass-pays g thresholds s k)))))
 
--- a run's width is that of the limits, which stay
-module _ (at : ℕ → Given) (thresholds : List ℤ) (b₀ : Budget) {s₀ : Ascent} {b : Budget} {c : Context} {current growth : List ℕ} (l : b .limits ≡ b₀ .limits)
-    (h : Onward (ascend (at (b₀ .limits .width)) thresholds) s₀ (ascend (at (b₀ .limits .width)) thresholds) (ascent b c current growth)) {x : Passed} (current′ growth′ : List ℕ)
-    (p : passedTo x current′ growth′ ≡ pass (at (b .limits .width)) thresholds (ascent b c current growth)) where
-  passed-as : (y : Passed) → x ≡ y → passedTo y current′ growth′ ≡ pass (at (b₀ .limits .width)) thresholds (ascent b c current growth)
-  passed-as y q = sym (ap (λ (y : Passed). passedTo y current′ growth′) q) ∙ (p ∙ ap (λ (z : Limits). pass (at (z .width)) thresholds (ascent b c current growth)) l)
+-- what is left of an ascent; the width that a run is given is that of the limits, which stay
+pub record Ascending (at : ℕ → Given) (thresholds : List ℤ) (s₀ s : Ascent) : Type 0 where
+  pub limits : s .budget .limits ≡ s₀ .budget .limits
+  pub is : ascend (at (s₀ .budget .limits .width)) thresholds s₀ ≡ ascend (at (s₀ .budget .limits .width)) thresholds s
 
-  pub ascend-stopped : {stop : Stop} {kept : Budget} {there : Context} → x ≡ passed.Stopped stop kept there → ascended (Stopped stop kept there) current′ growth′ ≡ ascend (at (b₀ .limits .width)) thresholds s₀
-  ascend-stopped q = onward-is h (ascend-stops (at (b₀ .limits .width)) thresholds (ascent b c current growth) (passed-as _ q))
+pub ascend-begun : (at : ℕ → Given) (thresholds : List ℤ) (s : Ascent) → Ascending at thresholds s s
+ascend-begun at thresholds s = record { limits = refl; is = refl }
 
-  pub ascend-settled : {done : Budget} {there : Context} → x ≡ Settled done there → ascended (Done done there) current′ growth′ ≡ ascend (at (b₀ .limits .width)) thresholds s₀
-  ascend-settled q = onward-is h (ascend-settles (at (b₀ .limits .width)) thresholds (ascent b c current growth) (passed-as _ q))
+module _ {at : ℕ → Given} {thresholds : List ℤ} {s₀ s : Ascent} (h : Ascending at thresholds s₀ s) {x : Passed} (current growth : List ℕ)
+    (p : passedTo x current growth ≡ pass (at (s .budget .limits .width)) thresholds s) where
+  passed-as : (y : Passed) → x ≡ y → passedTo y current growth ≡ pass (at (s₀ .budget .limits .width)) thresholds s
+  passed-as y q = sym (ap (λ (y : Passed). passedTo y current growth) q) ∙ (p ∙ ap (λ (l : Limits). pass (at (l .width)) thresholds s) (h .limits))
 
-  module _ {b′ : Budget} {there : Context} (q : x ≡ Changed b′ there) where
-    paid : Pays b b′
-    paid = pass-pays (at (b₀ .limits .width)) thresholds (ascent b c current growth) (passed-as _ q)
+  pub ascend-stopped : {stop : Stop} {b : Budget} {c : Context} → x ≡ passed.Stopped stop b c → ascended (Stopped stop b c) current growth ≡ ascend (at (s₀ .budget .limits .width)) thresholds s₀
+  ascend-stopped q = ascend-stops (at (s₀ .budget .limits .width)) thresholds s (passed-as _ q) ∙ sym (h .is)
 
-    pub ascend-limits : b′ .limits ≡ b₀ .limits
-    ascend-limits = paid .limits ∙ l
+  pub ascend-settled : {b : Budget} {c : Context} → x ≡ Settled b c → ascended (Done b c) current growth ≡ ascend (at (s₀ .budget .limits .width)) thresholds s₀
+  ascend-settled q = ascend-settles (at (s₀ .budget .limits .width)) thresholds s (passed-as _ q) ∙ sym (h .is)
 
-    pub ascend-less : left b′ < left b
+  module _ {b : Budget} {c : Context} (q : x ≡ Changed b c) where
+    paid : Pays (s .budget) b
+    paid = pass-pays (at (s₀ .budget .limits .width)) thresholds s (passed-as _ q)
+
+    pub ascend-less : left b < left (s .budget)
     ascend-less = fewer-left paid
 
-    pub ascend-goes : Onward (ascend (at (b₀ .limits .width)) thresholds) s₀ (ascend (at (b₀ .limits .width)) thresholds) (ascent b′ there current′ growth′)
-    ascend-goes = record { is = h .is ∙ ascend-more (at (b₀ .limits .width)) thresholds (ascent b c current growth) (passed-as _ q) }
+    pub ascend-again : Ascending at thresholds s₀ (ascent b c current growth)
+    ascend-again = record { limits = paid .limits ∙ h .limits; is = h .is ∙ ascend-more (at (s₀ .budget .limits .width)) thresholds s (passed-as _ q) }

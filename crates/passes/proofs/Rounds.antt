@@ -12,7 +12,6 @@ use Rattle.limits.specs.Metered.{Run, going, stopped, Metered, pure, after, _>>
 use Rattle.limits.specs.Budget.{released}
 use Rattle.limits.specs.Meter.{Meter, meterOf, withMeter}
 use Rattle.limits.proofs.Ends.{Ends, completes, stops, ends-pure, ends-as, on-bind, where-going}
-use Rattle.lattice.specs.Value.{Value}
 use Rattle.rows.specs.Row.{valueAt}
 use Rattle.slots.specs.Slots.{total}
 use Rattle.seeds.specs.Seed.{loses}

@@ -1,7 +1,7 @@
 -- What the code answers of one argument is what the definitions say, over plain variables.
 use Prim.Native.Nat.{ℕ, _-_}
-use mathlib.Core.Path.{_≡_, refl, sym, ap, _∙_}
-use mathlib.Core.Bool.{Bool, true, false, cond}
+use mathlib.Core.Path.{_≡_, sym, ap, _∙_}
+use mathlib.Core.Bool.{Bool, true, false}
 use mathlib.Core.List.{List}
 use lib.IntN.{ℤ}
 use Rattle.limits.specs.declared.Resource.the-variants.{Work}
@@ -11,7 +11,6 @@ use Rattle.limits.specs.declared.Charged.{Charged}
 use Rattle.limits.specs.declared.Charged.the-variants.{Paid}
 use Rattle.limits.specs.declared.Charged.the-variants as charged
 use Rattle.limits.specs.Charge.{chargeOf}
-use Rattle.limits.specs.Metered.{Run, going, stopped}
 use Rattle.limits.specs.Meter.{meter, meterOf, withMeter}
 use Rattle.limits.specs.Budget.{widenedOnce}
 use Rattle.limits.proofs.Monad.{bind-stop, bind-on, then-stop, then-on, pure-is}
@@ -22,7 +21,6 @@ use Rattle.lists.specs.declared.Verdict.the-variants.{Yes, No}
 use Rattle.lists.specs.declared.Verdict.the-variants as verdict
 use Rattle.lists.specs.Answers.{Answers}
 use Rattle.lattice.specs.declared.Abstract.{Abstract}
-use Rattle.lattice.specs.declared.Outcome.{Outcome}
 use Rattle.lattice.specs.declared.Outcome.the-variants.{Done, Stopped}
 use Rattle.lattice.specs.declared.Made.{Made}
 use Rattle.lattice.specs.Value.{Value, valueOf}

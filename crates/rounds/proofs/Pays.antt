@@ -1,12 +1,11 @@
 -- What a round leaves of a budget: the limits stay, and where it completes it has charged one round, within the limit.
 use Prim.Native.Nat.{ℕ, zero, suc, _+_, _≤_}
-use mathlib.Core.Path.{_≡_, refl, ap, subst, _∙_}
+use mathlib.Core.Path.{_≡_, refl, _∙_}
 use mathlib.Core.List.{List}
 use Rattle.limits.specs.declared.Resource.the-variants.{Rounds}
-use Rattle.limits.specs.declared.Limits.{Limits}
 use Rattle.limits.specs.declared.Stop.{Stop}
 use Rattle.limits.specs.declared.Budget.{Budget}
-use Rattle.limits.specs.Metered.{Run, going, stopped, Metered, pure, _>>=_, _>>_, through}
+use Rattle.limits.specs.Metered.{Run, Metered, _>>_}
 use Rattle.limits.specs.Budget.{round, released}
 use Rattle.limits.specs.Meter.{Meter, meterOf, withMeter}
 use Rattle.limits.proofs.ChargeLaws.{Charges, accepted, refused, charge-does}
@@ -14,7 +13,7 @@ use Rattle.limits.proofs.Ends.{Ends, completes, stops, ends-pure, ends-as, ends
 use Rattle.store.specs.declared.Context.{Context}
 use Rattle.rules.specs.Read.{contextAt}
 use Rattle.slots.specs.Slots.{Slots, slots, total, copies}
-use Rattle.rounds.specs.Round.{Given, Standing, standing, charging, inTable, holdingRows, entering, eachRule, apply, produce, image, Course, course, blank, candidatesOf, candidates}
+use Rattle.rounds.specs.Round.{Given, Standing, standing, inTable, holdingRows, entering, eachRule, apply, produce, image, Course, blank, candidatesOf, candidates}
 
 -- ---- of budgets
 

@@ -1,26 +1,18 @@
-use Rattle.passes.proofs.StepLaws.{lost-counted, kept-counted}
+-- `passes::count_lost` meets its contract.
 use borrow.Author.Needs.{needs}
-use native.Mathlib.Omega.{arith}
+use Rattle.passes.proofs.StepLaws.{lost-counted, kept-counted}
 use Rattle.passes.proofs.count_lost.Statement.{statement}
 use Rattle.passes.proofs.count_lost.Tie as tie
-use Rattle.passes.proofs.count_lost.Reads as reads
-use Rattle.passes.proofs.count_lost.Lts as lts
-use Rattle.limits.proofs.Budget.widen.Reads as widen-reads
-use Rattle.seeds.proofs.is_lost.Reads as is-lost-reads
 
--- src/lib.rt:189:8
 is-lost-requires : tie.Need-is-lost-requires
 is-lost-requires c κs = search needs
 
--- src/lib.rt:190:9
 widen-requires : tie.Need-widen-requires
 widen-requires c κs = search needs
 
--- src/lib.rt:190:9
 returns : tie.Need-returns
 returns c = lost-counted (c .before .before .before .args .budget) (c .before .before .is-lost .ensures) (c .before .if1 .taken) (c .widen .ensures)
 
--- src/lib.rt:186:1
 returns-2 : tie.Need-returns-2
 returns-2 c = kept-counted (c .before .before .args .budget) (c .before .is-lost .ensures) (c .if1 .left)
 

@@ -1,77 +1,72 @@
-use Rattle.passes.proofs.StepLaws.{step-stopped, step-done}
+-- `passes::step` meets its contract.
 use borrow.Author.Needs.{needs}
-use native.Mathlib.Omega.{arith}
+use Rattle.passes.proofs.StepLaws.{step-stopped, step-done}
 use Rattle.passes.proofs.step.Statement.{statement}
 use Rattle.passes.proofs.step.Tie as tie
-use Rattle.passes.proofs.step.Reads as reads
-use Rattle.passes.proofs.step.Lts as lts
-use Rattle.limits.proofs.Budget.with_meter.Reads as with-meter-reads
-use Rattle.passes.proofs.count_lost.Reads as count-lost-reads
-use Rattle.passes.proofs.grow.Reads as grow-reads
-use Rattle.rows.proofs.abstract_at.Reads as abstract-at-reads
-use Rattle.rows.proofs.put_abstract.Reads as put-abstract-reads
-use Rattle.widening.proofs.growth_at.Reads as growth-at-reads
-use Rattle.widening.proofs.put_growth.Reads as put-growth-reads
 
--- src/lib.rt:209:9
 abstract-at-requires : tie.Need-abstract-at-requires
 abstract-at-requires c κs = search needs
 
--- src/lib.rt:210:9
 abstract-at-requires-2 : tie.Need-abstract-at-requires-2
 abstract-at-requires-2 c κs = search needs
 
--- src/lib.rt:215:9
 growth-at-requires : tie.Need-growth-at-requires
 growth-at-requires c κs = search needs
 
--- src/lib.rt:211:9
 grow-requires : tie.Need-grow-requires
 grow-requires c κs = search needs
 
--- src/lib.rt:225:9
 with-meter-requires : tie.Need-with-meter-requires
 with-meter-requires c κs = search needs
 
--- src/lib.rt:227:26
 enum-known-outcome : tie.Need-enum-known-outcome
 enum-known-outcome c = search needs
 
--- src/lib.rt:229:32
 enum-told : tie.Need-enum-told
 enum-told c = search needs
 
--- src/lib.rt:229:13
 put-abstract-requires : tie.Need-put-abstract-requires
 put-abstract-requires c κs = search needs
 
--- src/lib.rt:230:13
 put-growth-requires : tie.Need-put-growth-requires
 put-growth-requires c κs = search needs
 
--- src/lib.rt:231:42
 count-lost-requires : tie.Need-count-lost-requires
 count-lost-requires c κs = search needs
 
--- src/lib.rt:196:1
 same-length : tie.Need-same-length
 same-length c = search needs
 
--- src/lib.rt:196:1
 returns : tie.Need-returns
-returns c = step-stopped (c .before .before .before .before .before .before .before .before .before .before .before .before .before .before .before .before .before .args .thresholds .now) (c .before .before .before .before .before .before .before .before .before .before .before .before .before .before .before .before .before .args .current .now) (c .before .before .before .before .before .before .before .before .before .before .before .before .before .before .before .before .before .args .candidates .now) (c .before .before .before .before .before .before .before .before .before .before .before .before .before .before .before .before .before .args .argument) (c .before .before .before .before .before .before .before .before .before .before .before .before .before .before .before .before .before .args .budget) _ _ (c .before .before .before .before .before .before .before .before .before .before .abstract-at .ensures) (c .before .before .before .before .before .before .before .before .before .abstract-at2 .ensures) (c .before .before .before .before .before .before .before .growth-at .ensures) (c .before .before .before .before .before .before .grow .result) (c .before .before .before .before .before .before .grow .ensures) (c .before .before .before .with-meter .ensures) (c .before .outcome .given .1)
+returns c =
+    let c₃ = c .before .before .before in
+    let c₆ = c₃ .before .before .before in
+    let c₇ = c₆ .before in
+    let c₉ = c₇ .before .before in
+    let c₁₀ = c₉ .before in
+    let c₁₇ = c₁₀ .before .before .before .before .before .before .before in
+    let a = c₁₇ .args in
+    step-stopped (a .thresholds .now) (a .current .now) (a .candidates .now) (a .argument) (a .budget) _ _ (c₁₀ .abstract-at .ensures) (c₉ .abstract-at2 .ensures) (c₇ .growth-at .ensures) (c₆ .grow .result) (c₆ .grow .ensures) (c₃ .with-meter .ensures) (c .before .outcome .given .1)
 
--- src/lib.rt:196:1
 same-length-2 : tie.Need-same-length-2
 same-length-2 c = search needs
 
--- src/lib.rt:196:1
 same-length-3 : tie.Need-same-length-3
 same-length-3 c = search needs
 
--- src/lib.rt:196:1
 returns-2 : tie.Need-returns-2
-returns-2 c = step-done (c .before .before .before .before .before .before .before .before .before .before .before .before .before .before .before .before .before .before .before .before .before .before .before .before .before .args .thresholds .now) (c .before .before .before .before .before .before .before .before .before .before .before .before .before .before .before .before .before .before .before .before .before .before .before .before .before .args .current .now) (c .before .before .before .before .before .before .before .before .before .before .before .before .before .before .before .before .before .before .before .before .before .before .before .before .before .args .candidates .now) (c .before .before .before .before .before .before .before .before .before .before .before .before .before .before .before .before .before .before .before .before .before .before .before .before .before .args .argument) (c .before .before .before .before .before .before .before .before .before .before .before .before .before .before .before .before .before .before .before .before .before .before .before .before .before .args .budget) _ _ (c .before .before .before .before .before .before .before .before .before .before .before .before .before .before .before .before .before .before .abstract-at .ensures) (c .before .before .before .before .before .before .before .before .before .before .before .before .before .before .before .before .before .abstract-at2 .ensures) (c .before .before .before .before .before .before .before .before .before .before .before .before .before .before .before .growth-at .ensures) (c .before .before .before .before .before .before .before .before .before .before .before .before .before .before .grow .result) (c .before .before .before .before .before .before .before .before .before .before .before .before .before .before .grow .ensures) (c .before .before .before .before .before .before .before .before .before .before .before .with-meter .ensures) (c .before .before .before .before .before .before .before .before .before .enum-told .given .1) (c .before .before .before .before .before .before .before .put-abstract .ensures) (c .before .before .before .put-growth .ensures) (c .count-lost .ensures)
+returns-2 c =
+    let c₃ = c .before .before .before in
+    let c₇ = c₃ .before .before .before .before in
+    let c₉ = c₇ .before .before in
+    let c₁₁ = c₉ .before .before in
+    let c₁₄ = c₁₁ .before .before .before in
+    let c₁₅ = c₁₄ .before in
+    let c₁₇ = c₁₅ .before .before in
+    let c₁₈ = c₁₇ .before in
+    let c₂₅ = c₁₈ .before .before .before .before .before .before .before in
+    let a = c₂₅ .args in
+    step-done (a .thresholds .now) (a .current .now) (a .candidates .now) (a .argument) (a .budget) _ _ (c₁₈ .abstract-at .ensures) (c₁₇ .abstract-at2 .ensures) (c₁₅ .growth-at .ensures) (c₁₄ .grow .result) (c₁₄ .grow .ensures) (c₁₁ .with-meter .ensures) (c₉ .enum-told .given .1) (c₇ .put-abstract .ensures) (c₃ .put-growth .ensures) (c .count-lost .ensures)
 
 pub step-spec : {M : Type 1} → statement M
 step-spec =
