@@ -18,7 +18,7 @@ use Rattle.interval.specs.declared.Interval.the-variants.{Unbounded}
 use Rattle.lattice.specs.Value.{Value}
 use Rattle.rows.specs.Row.{row, entriesOf}
 use Rattle.rows.specs.WellFormed.{WellFormed}
-use Rattle.rows.proofs.Formed.{top-formed, numeric-formed}
+use Rattle.rows.proofs.Good.{Good, top-good, numeric-good}
 use Rattle.rules.specs.declared.AggregateFunction.{AggregateFunction}
 use Rattle.rules.specs.declared.AggregateFunction.the-variants.{Count, Sum, SumPlus, Min, Max}
 use Rattle.rules.specs.declared.Binding.{Binding}
@@ -29,7 +29,7 @@ use Rattle.operators.specs.Arithmetic.{span}
 use Rattle.evaluation.specs.Evaluation.{Input, Values}
 use Rattle.evaluation.proofs.Live.{numeric-none, expression-lives, both-lives}
 use Rattle.operators.proofs.Formed.{span-proper}
-use Rattle.evaluation.proofs.Formed.{expression-formed, both-formed}
+use Rattle.evaluation.proofs.Formed.{expression-good, both-good}
 use Rattle.bindings.specs.Bindings.{assigned, aggregate, spanning, ranged, meeting, meetBinding, passes, bind}
 
 -- ---- what is worked out: the entries of its own list alone
@@ -55,31 +55,31 @@ aggregate-none Max = refl
 
 -- ---- and it is one that a row holds exactly
 
-aggregate-formed : (f : AggregateFunction) → WellFormed (aggregate f)
-aggregate-formed Count = numeric-formed Unbounded tt
-aggregate-formed Sum = numeric-formed Unbounded tt
-aggregate-formed SumPlus = numeric-formed Unbounded tt
-aggregate-formed Min = top-formed _
-aggregate-formed Max = top-formed _
+aggregate-good : (f : AggregateFunction) → Good (aggregate f)
+aggregate-good Count = numeric-good Unbounded tt
+aggregate-good Sum = numeric-good Unbounded tt
+aggregate-good SumPlus = numeric-good Unbounded tt
+aggregate-good Min = top-good _
+aggregate-good Max = top-good _
 
-spanning-formed : (p : Values) → Ensures WellFormed (spanning p)
+spanning-good : (p : Values) → Ensures Good (spanning p)
 unfolding spanning
-spanning-formed p = by-through WellFormed _ _ _ _ (by-through WellFormed _ _ _ _ (by-pure _ (numeric-formed (span (p .first .bound .interval) (p .second .bound .interval)) (span-proper (p .first .bound .interval) (p .second .bound .interval)))))
+spanning-good p = by-through Good _ _ _ _ (by-through Good _ _ _ _ (by-pure _ (numeric-good (span (p .first .bound .interval) (p .second .bound .interval)) (span-proper (p .first .bound .interval) (p .second .bound .interval)))))
 
 module _ (i : Input) (small : All (λ c. c < 2 ^ 32) (i .constants)) where
-  assigned-formed : (id : ℕ) (rows : List ℕ) → Formed rows → Ensures WellFormed (assigned i rows id)
+  assigned-good : (id : ℕ) (rows : List ℕ) → Formed rows → Ensures Good (assigned i rows id)
   unfolding assigned
-  assigned-formed id rows f = expression-formed i small rows f [] tt id
+  assigned-good id rows f = expression-good i small rows f [] tt id
 
-  ranged-formed : (low high : ℕ) (rows : List ℕ) → Formed rows → Ensures WellFormed (ranged i rows low high)
+  ranged-good : (low high : ℕ) (rows : List ℕ) → Formed rows → Ensures Good (ranged i rows low high)
   unfolding ranged
-  ranged-formed low high rows f = monad.bind (both-formed i small rows f [] tt low high) (λ p _. spanning-formed p)
+  ranged-good low high rows f = monad.bind (both-good i small rows f [] tt low high) (λ p _. spanning-good p)
 
 -- ---- one binding
 
 module _ (constants : List ℕ) (small : All (λ c. c < 2 ^ 32) constants) {n : ℕ} (slot : ℕ) (inside : slot < n) where
   -- what is worked out over the rows is in hand until it has met the slot
-  keeps-meeting : (f : List ℕ → Metered Stop Meter Value) → ((rows : List ℕ) → Lives 0 entriesOf (f rows)) → ((rows : List ℕ) → Formed rows → Ensures WellFormed (f rows)) → Keeps n (meeting constants slot f)
+  keeps-meeting : (f : List ℕ → Metered Stop Meter Value) → ((rows : List ℕ) → Lives 0 entriesOf (f rows)) → ((rows : List ℕ) → Formed rows → Ensures Good (f rows)) → Keeps n (meeting constants slot f)
   unfolding meeting
   keeps-meeting f l w = record {
     at = λ e s h.
@@ -88,15 +88,15 @@ module _ (constants : List ℕ) (small : All (λ c. c < 2 ^ 32) constants) {n : 
         (λ _ t q. held-as (q .0) (omega (arith, q .1)) h);
   }
 
-  keeps-owned : (v : Value) → WellFormed v → entriesOf v ≡ 0 → Keeps n (meetOwned constants slot v)
+  keeps-owned : (v : Value) → Good v → entriesOf v ≡ 0 → Keeps n (meetOwned constants slot v)
   keeps-owned v w z = record { at = λ e s h. owned-ends constants small slot inside v w e s (held-as refl (omega arith) h) }
 
 module _ (i : Input) (small : All (λ c. c < 2 ^ 32) (i .constants)) {n : ℕ} where
   pub keeps-binding : (b : Binding) → SlotIn n b → Keeps n (meetBinding i b)
   keeps-binding (Positive slot argument) h = keeps-pure
-  keeps-binding (Assign slot value) h = keeps-meeting (i .constants) small slot h _ (λ rows. assigned-lives i rows value) (assigned-formed i small value)
-  keeps-binding (Range slot low high) h = keeps-meeting (i .constants) small slot h _ (λ rows. ranged-lives i rows low high) (ranged-formed i small low high)
-  keeps-binding (Aggregate slot function) h = keeps-owned (i .constants) small slot h (aggregate function) (aggregate-formed function) (aggregate-none function)
+  keeps-binding (Assign slot value) h = keeps-meeting (i .constants) small slot h _ (λ rows. assigned-lives i rows value) (assigned-good i small value)
+  keeps-binding (Range slot low high) h = keeps-meeting (i .constants) small slot h _ (λ rows. ranged-lives i rows low high) (ranged-good i small low high)
+  keeps-binding (Aggregate slot function) h = keeps-owned (i .constants) small slot h (aggregate function) (aggregate-good function) (aggregate-none function)
 
   -- ---- all of them
 

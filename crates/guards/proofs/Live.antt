@@ -231,7 +231,7 @@ module _ (i : Input) (small : All (λ c. c < 2 ^ 32) (i .constants)) {n : ℕ} w
   guard-ends domains formed gs inside e s room f cells q =
       on-then (λ t. slots (t .meter) (t .produced)) (λ t u. local (u .meter) (u .rows) (t .refinements)) (λ t u. local (u .meter) (u .rows) (t .refinements)) (λ x. x)
       {P = λ _ u. Held (0 + n) e u} {Q = λ _ u. u .meter .entries ≡ e} (copies domains 0 n) (holdingProduced n (guardAll i gs)) s
-      (copies-ends domains formed 0 n e (slots (s .meter) (s .produced)) (omega arith) record { room = omega arith; formed = f; live = omega arith })
+      (copies-ends domains n (λ j _. formed j) 0 n e (omega arith) (slots (s .meter) (s .produced)) (omega arith) record { room = omega arith; formed = f; live = omega arith })
       (λ _ u p.
       ends-through (λ t. t) (λ _ t. t) (λ _ t. fewer (total (t .produced) n) t) (λ x. x) (guardAll i gs) (local (u .meter) (u .rows) (s .refinements))
       (stays-all gs inside .at e (local (u .meter) (u .rows) (s .refinements)) record { held = rw zero-add at p; small = cells })

@@ -23,6 +23,10 @@ use Rattle.passes.specs.Pass.{Ascent, ascent}
 abbrev pub grew : Grew → ℕ → ℕ → Run Stop Meter Grown
 grew r mw me = ranAs (r .outcome) (grown (valueOf (r .value)) (r .growth) (r .changed)) (meter (r .work) mw (r .entries) me)
 
+-- a stop with these counts, whatever the limits are
+pub record StopsAt (s : Stop) (work entries : ℕ) (r : Grew) : Type 0 where
+  pub at : (mw me : ℕ) → grew r mw me ≡ stopped s (meter work mw entries me)
+
 -- what m comes to, which charges no entries: whatever their limit is
 pub record Compares (m : Metered Stop Meter Grown) (work maxWork entries : ℕ) (r : Grew) : Type 0 where
   pub at : (me : ℕ) → grew r maxWork me ≡ m (meter work maxWork entries me)

@@ -22,7 +22,7 @@ ghost use Rattle.evaluation.specs.Evaluation.{input};
 ghost use Rattle.rounds.specs.Round.{given};
 ghost use Rattle.passes.specs.Step.{within, compared, widenValue, grow, counting, steps, step, advance};
 ghost use Rattle.passes.specs.Pass.{ascent, renew, pass, ascend};
-ghost use Rattle.passes.specs.Answers.{grew, Compares, advancedTo, passedTo, ascended};
+ghost use Rattle.passes.specs.Answers.{grew, StopsAt, Compares, advancedTo, passedTo, ascended};
 
 // The new value of an argument, its growth, and whether it has changed. Where the outcome is a stop the three mean nothing.
 pub struct Grew {
@@ -68,7 +68,9 @@ fn within(interval: Interval, value: Abstract) -> Abstract
 }
 
 // Nothing new: a stop.
-fn stopped(stop: Stop, old: Abstract, growth: Growth, work: u64, entries: u64) -> Grew {
+fn stopped(stop: Stop, old: Abstract, growth: Growth, work: u64, entries: u64) -> Grew
+    ensures { λ r. ⌜ StopsAt stop work entries r ⌝ }
+{
     Grew {
         outcome: Outcome::Stopped(stop),
         value: old,

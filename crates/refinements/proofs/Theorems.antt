@@ -30,7 +30,8 @@ use Rattle.lattice.proofs.Steadiness.{refine-steady}
 use Rattle.rows.specs.Row.{caseCell, lowCell, highCell, entriesOf}
 use Rattle.rows.specs.WellFormed.{Proper, WellFormed}
 use Rattle.rows.proofs.RowLaws.{size-is, interval-proper, interval-back}
-use Rattle.rows.proofs.Formed.{proper-meet, refine-formed}
+use Rattle.rows.proofs.Formed.{proper-meet}
+use Rattle.rows.proofs.Good.{Good, refine-good}
 use Rattle.refinements.specs.Refinement.{Refinement, row, refinementAt, refinementsOf, putRefinement, integer?, narrow, restrict, position, Notes, notes, noted, note}
 
 -- ---- rows
@@ -163,11 +164,11 @@ module _ (n id : ℕ) (i : Interval) (proper : Proper i) where
 -- ---- values that a row holds exactly
 
 module _ (constants : List ℕ) (small : All (λ n. n < 2 ^ 32) constants) where
-  pub narrow-formed : (i : Interval) (v : Value) → Proper i → WellFormed v → Ensures WellFormed (narrow constants i v)
-  narrow-formed i v p w = by-test (integer? v) (λ _. by-through WellFormed _ _ _ _ (refine-formed constants small v i w p)) (λ _. by-pure v w)
+  pub narrow-good : (i : Interval) (v : Value) → Proper i → Good v → Ensures Good (narrow constants i v)
+  narrow-good i v p w = by-test (integer? v) (λ _. by-through Good _ _ _ _ (refine-good constants small v i w p)) (λ _. by-pure v w)
 
-  pub restrict-formed : (rs : List Refinement) (id : ℕ) (v : Value) → All (λ r. Proper (r .restriction)) rs → WellFormed v → Ensures WellFormed (restrict constants rs id v)
+  pub restrict-good : (rs : List Refinement) (id : ℕ) (v : Value) → All (λ r. Proper (r .restriction)) rs → Good v → Ensures Good (restrict constants rs id v)
   unfolding restrict
-  restrict-formed [] id v p w = by-pure v w
-  restrict-formed (r ∷ rs) id v p w =
-      then (holding (entriesOf v) (work 1)) (by-test (eqb (r .expression) id) (λ _. narrow-formed (r .restriction) v (p .0) w) (λ _. restrict-formed rs id v (p .1) w))
+  restrict-good [] id v p w = by-pure v w
+  restrict-good (r ∷ rs) id v p w =
+      then (holding (entriesOf v) (work 1)) (by-test (eqb (r .expression) id) (λ _. narrow-good (r .restriction) v (p .0) w) (λ _. restrict-good rs id v (p .1) w))

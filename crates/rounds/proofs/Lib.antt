@@ -1,7 +1,9 @@
-pub mod Brings
-pub mod Charging
 pub mod CodeLaws
+pub mod Charging
+pub mod Brings
 pub mod Joined
-pub mod Live
 pub mod Moved
+pub mod Copied
+pub mod Pays
+pub mod Live
 pub mod Steady

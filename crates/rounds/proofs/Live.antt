@@ -4,8 +4,10 @@ use native.Mathlib.Omega.{arith}
 use native.Mathlib.Nat.{min-le-right}
 use mathlib.Core.Path.{_≡_, refl, ap, _∙_}
 use mathlib.Core.List.{List, [], _∷_}
-use lib.ListN.{length, replicate, length-replicate}
+use mathlib.Core.Option.{none}
+use lib.ListN.{length, getD, drop, replicate, length-replicate}
 use Rattle.integers.specs.Lists.{All}
+use Rattle.integers.proofs.Stores.{all-getD}
 use Rattle.limits.specs.declared.Stop.{Stop}
 use Rattle.limits.specs.declared.Resource.the-variants.{Rounds}
 use Rattle.limits.specs.Metered.{Run, going, stopped, Metered}
@@ -16,9 +18,10 @@ use Rattle.limits.proofs.Ends.{Ends, completes, stops, ends-through, ends-as, o
 use Rattle.limits.proofs.Live.{live-work, live-ends}
 use Rattle.lattice.specs.Value.{Value}
 use Rattle.lattice.specs.Lattice.{join}
-use Rattle.rows.specs.Row.{row, valueAt, put}
+use Rattle.rows.specs.Row.{row, padded, decode, valueAt, put}
 use Rattle.rows.specs.WellFormed.{WellFormed}
-use Rattle.rows.proofs.RowLaws.{value-formed, length-put}
+use Rattle.rows.proofs.RowLaws.{value-formed, row-cell, length-put}
+use Rattle.rows.proofs.Good.{Good, join-good}
 use Rattle.rules.specs.declared.Head.{Head}
 use Rattle.rules.specs.Read.{slotsAt, bindingsAt, guardsAt, headsAt}
 use Rattle.slots.specs.Slots.{Slots, slots, total, copies}
@@ -26,13 +29,13 @@ use Rattle.slots.proofs.Live.{Formed, formed-put, Held, SlotIn, copies-ends}
 use Rattle.evaluation.specs.Evaluation.{Input}
 use Rattle.guards.proofs.Live.{GuardIn}
 use Rattle.transfer.specs.Transfer.{Frame, frame, rule}
-use Rattle.transfer.proofs.Live.{Filled, Lent, rule-ends, head-formed}
+use Rattle.transfer.proofs.Live.{Filled, Lent, rule-ends, head-good}
 use Rattle.rounds.specs.Locals.{Locals, locals, fill, blank, localsOf, local}
 use Rattle.rounds.specs.Round.{Given, Standing, standing, inTable, holdingRows, eachRule, joinHead, apply, produce, image, Course, course, candidatesOf, candidates}
 use Rattle.rounds.specs.Round.{blank as table}
 use Rattle.rounds.proofs.Charging.{charge-ends}
 use Rattle.rounds.proofs.Brings.{Brings, rowsOf, held, brings-each, brings-locals, Stands, rules-keep}
-use Rattle.rounds.proofs.Joined.{join-formed, brings-head}
+use Rattle.rounds.proofs.Joined.{brings-head}
 
 -- what a rule names stays inside its tables: slots below their number, arguments below n
 pub record Fit (n : ℕ) (i : Input) (rules : List ℕ) (id : ℕ) : Type 0 where
@@ -46,12 +49,22 @@ pub few-slots : (rules : List ℕ) (id : ℕ) → slotsAt rules id ≤ 16
 unfolding slotsAt
 few-slots rules id = min-le-right _ 16
 
-all-zero : (n : ℕ) → All (λ c. c < 2 ^ 32) (replicate n 0)
-all-zero zero = tt
-all-zero (suc n) = (omega arith, all-zero n)
+all-zero : (P : ℕ → Type 0) → P 0 → (n : ℕ) → All P (replicate n 0)
+all-zero P p zero = tt
+all-zero P p (suc n) = (p, all-zero P p n)
+
+small-zero : (n : ℕ) → All (λ c. c < 2 ^ 32) (replicate n 0)
+small-zero n = all-zero (λ c. c < 2 ^ 32) (omega arith) n
+
+-- a row of zeros has no list
+no-list : (n i : ℕ) → valueAt (replicate n 0) i .values ≡ none
+unfolding valueAt decode
+no-list n i = let e : getD (padded row (drop (row * i) (replicate n 0))) 4 0 ≡ 0 = row-cell (replicate n 0) (row * i) 4 (omega arith) ∙ all-getD (λ c. c ≡ 0) (replicate n 0) (row * i + 4) 0 (all-zero (λ c. c ≡ 0) refl n) refl in rw e
 
 pub blank-formed : (n : ℕ) → Formed (replicate n 0)
-blank-formed n i = value-formed (replicate n 0) i (all-zero n)
+blank-formed n i =
+    let e = no-list n i in
+    record { formed = value-formed (replicate n 0) i (small-zero n); tidy = record { sorted = rw e tt; small = rw e tt } }
 
 lent : (n : ℕ) (m : Meter) → n ≤ 16 → Lent n (blank m)
 lent n m h = record {
@@ -59,7 +72,7 @@ lent n m h = record {
   after = rw (length-replicate {A = ℕ} (row * 16) 0) (omega arith);
   domains = blank-formed (row * 16);
   produced = blank-formed (row * 16);
-  refinements = all-zero 256;
+  refinements = small-zero 256;
 }
 
 -- ---- a rule's slots
@@ -99,10 +112,10 @@ module _ (i : Input) (small : All (λ c. c < 2 ^ 32) (i .constants)) (n : ℕ) w
   -- a head's value joins a row
   pub head-keeps : (l : Locals) → Legible l → (h : Head) → h .argument < n → Brings (rowsOf n) (Room n) (Room n) (joinHead i (l .produced) (l .refinements) (l .recorded) h)
   head-keeps l k h inside =
-      brings-head n (Room n) (Room n) WellFormed (λ rows p. p .0) i (l .produced) (l .refinements) (l .recorded) h inside
-      (head-formed i small (l .produced) (l .refinements) (k .produced) (k .refinements) (l .recorded) (h .value))
+      brings-head n (Room n) (Room n) Good (λ rows p. p .0) i (l .produced) (l .refinements) (l .recorded) h inside
+      (head-good i small (l .produced) (l .refinements) (k .produced) (k .refinements) (l .recorded) (h .value))
       (λ v w rows p.
-      weaken (λ x f. (f, (omega (arith, p .0, length-put rows (h .argument) x), formed-put rows (h .argument) x (omega (arith, p .0)) f (p .1)))) (join-formed (i .width) (valueAt rows (h .argument)) v (p .1 (h .argument)) w))
+      weaken (λ x f. (f .formed, (omega (arith, p .0, length-put rows (h .argument) x), formed-put rows (h .argument) x (omega (arith, p .0)) f (p .1)))) (join-good (i .width) (valueAt rows (h .argument)) v (p .1 (h .argument)) w))
 
   heads-keep : (l : Locals) → Legible l → (hs : List Head) → All (λ h. h .argument < n) hs → All (λ h. Brings (rowsOf n) (Room n) (Room n) (joinHead i (l .produced) (l .refinements) (l .recorded) h)) hs
   heads-keep l k [] q = tt
@@ -141,17 +154,17 @@ module _ (g : Given) (previous : List ℕ) (F G : List ℕ → Type 0) (e : ℕ)
       on-then (λ u. u .budget) (λ u b. standing b (u .context) (u .rows)) (λ u b. standing b (u .context) (u .rows)) (λ x. x) round (produce g previous) s (charge-ends Rounds 1 (s .budget))
       (λ _ b p. produce-brings (standing b (s .context) (s .rows)) r f (rw p q)) (λ _ b p. rw (p .1) q)
 
-pub image-live : (g : Given) → All (λ c. c < 2 ^ 32) (g .input .constants) → ((id : ℕ) → id < g .count → Fit (g .positions) (g .input) (g .rules) id) → Formed (g .seeds) → (previous : List ℕ) → Formed previous →
+pub image-live : (g : Given) → All (λ c. c < 2 ^ 32) (g .input .constants) → ((id : ℕ) → id < g .count → Fit (g .positions) (g .input) (g .rules) id) → ((a : ℕ) → a < g .positions → Good (valueAt (g .seeds) a)) → (previous : List ℕ) → Formed previous →
     (e : ℕ) (s : Standing) → row * g .positions ≤ length (s .rows) → Formed (s .rows) → s .budget .statistics .entries ≡ e →
     Ends (λ _ t. Stands (rowsOf (g .positions)) e t × Room (g .positions) (t .rows)) (λ _ t. t .budget .statistics .entries ≡ e) (image g previous s)
 unfolding total
 image-live g small fits seeds previous formed e =
     image-brings g previous (Room (g .positions)) (Room (g .positions)) e
-    (λ s r f q. ends-as (copies-ends (g .seeds) seeds 0 (g .positions) e s (omega arith) (none s f q)) (λ _ t h. all t h) (λ _ t h. h))
+    (λ s r f q. ends-as (copies-ends (g .seeds) (g .positions) seeds 0 (g .positions) e (omega arith) s (omega arith) (held-none s f q)) (λ _ t h. all t h) (λ _ t h. h))
     (λ s p q. rules-keep (g .rules) (apply (g .input) (g .rules) previous) (rowsOf (g .positions)) (Room (g .positions)) e 0 (g .count) (λ id l. apply-keeps (g .input) small (g .positions) (g .rules) previous formed id (fits id (omega arith))) s p q)
   where
-    none : (s : Slots) → Formed (s .rows) → s .meter .entries ≡ e → Held 0 e s
-    none s f q = record { room = omega arith; formed = f; live = omega arith }
+    held-none : (s : Slots) → Formed (s .rows) → s .meter .entries ≡ e → Held 0 e s
+    held-none s f q = record { room = omega arith; formed = f; live = omega arith }
 
     all : (t : Slots) → Held (0 + g .positions) e t → (t .meter .entries ≡ e + total (t .rows) (g .positions)) × Room (g .positions) (t .rows)
     all t h = let k : 0 + g .positions ≡ g .positions = omega arith in (rw k at (h .live), (omega (arith, h .room), h .formed))

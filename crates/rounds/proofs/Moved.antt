@@ -26,7 +26,7 @@ module _ (from to : List ℕ) (formed : Formed from) where
     | yes m ↦ put-other (moved from n to) n (valueAt from n) a (λ e. omega arith) ∙ moved-row n a (omega arith) m
     | no m ↦
         let e : a ≡ n = omega arith in
-        rw e (put-back (moved from n to) n (valueAt from n) (omega (arith, length-moved from to n)) (formed n))
+        rw e (put-back (moved from n to) n (valueAt from n) (omega (arith, length-moved from to n)) (formed n .formed))
   ]
 
   pub moved-formed : (n : ℕ) → row * n ≤ length to → Formed to → Formed (moved from n to)

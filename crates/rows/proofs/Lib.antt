@@ -1,3 +1,4 @@
 pub mod RowLaws
 pub mod CodeLaws
 pub mod Formed
+pub mod Good

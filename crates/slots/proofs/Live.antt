@@ -25,7 +25,7 @@ use Rattle.lattice.proofs.LiveLaws.{meet-lives, refine-lives, copied-lives}
 use Rattle.rows.specs.Row.{row, listOf, entriesOf, valueAt, put}
 use Rattle.rows.specs.WellFormed.{Proper, WellFormed}
 use Rattle.rows.proofs.RowLaws.{size-is, length-put, put-back, put-other}
-use Rattle.rows.proofs.Formed.{meet-formed, refine-formed, copied-formed, top-formed}
+use Rattle.rows.proofs.Good.{Good, meet-good, refine-good, copied-good, top-good}
 use Rattle.rules.specs.declared.Binding.{Binding}
 use Rattle.rules.specs.declared.Binding.the-variants.{Positive, Assign, Range, Aggregate}
 use Rattle.slots.specs.Slots.{Slots, slots, paying, fewer, holdingRows, total, putting, settled, replace, meetInto, meetOwned, refineInto, step, each, tops, meetArgument, marked, depending, markDependent, copies}
@@ -75,28 +75,28 @@ total-part rows slot (suc n) l = elim (decLt slot n) [
 
 -- ---- a table of n values
 
--- each value is one that its row holds exactly, beyond the n rows too: any cells of 32 bits read so (`value-formed` of rows)
+-- each value is one that the engine makes, beyond the n rows too, where nothing has been written yet
 abbrev pub Formed : List ℕ → Type 0
-Formed rows = (i : ℕ) → WellFormed (valueAt rows i)
+Formed rows = (i : ℕ) → Good (valueAt rows i)
 
 pub record Held (n e : ℕ) (s : Slots) : Type 0 where
   pub room : row * n ≤ length (s .rows)
   pub formed : Formed (s .rows)
   pub live : s .meter .entries ≡ e + total (s .rows) n
 
-pub formed-put : (rows : List ℕ) (slot : ℕ) (v : Value) → row * slot + row ≤ length rows → WellFormed v → Formed rows → Formed (put rows slot v)
+pub formed-put : (rows : List ℕ) (slot : ℕ) (v : Value) → row * slot + row ≤ length rows → Good v → Formed rows → Formed (put rows slot v)
 formed-put rows slot v r w f i = elim (ℕ-discrete i slot) [
-  | yes e ↦ rw (e, put-back rows slot v r w) w
+  | yes e ↦ rw (e, put-back rows slot v r (w .formed)) w
   | no d ↦ rw (put-other rows slot v i d) (f i)
 ]
 
 -- one value in the place of another
-pub held-put : {n e : ℕ} {m m′ : Meter} {rows : List ℕ} (slot : ℕ) (v : Value) → slot < n → WellFormed v → Held n e (slots m rows) → m′ .entries + entriesOf (valueAt rows slot) ≡ m .entries + entriesOf v →
+pub held-put : {n e : ℕ} {m m′ : Meter} {rows : List ℕ} (slot : ℕ) (v : Value) → slot < n → Good v → Held n e (slots m rows) → m′ .entries + entriesOf (valueAt rows slot) ≡ m .entries + entriesOf v →
     Held n e (slots m′ (put rows slot v))
 held-put {n} {rows = rows} slot v l w h q = record {
   room = omega (arith, length-put rows slot v, h .room);
   formed = formed-put rows slot v (omega (arith, h .room)) w (h .formed);
-  live = omega (arith, total-put rows slot v n l (h .room) w, h .live);
+  live = omega (arith, total-put rows slot v n l (h .room) (w .formed), h .live);
 }
 
 -- m leaves the entries of n rows live, beside any others
@@ -135,8 +135,8 @@ keeps-each f (a ∷ l) h = keeps-then (keeps-step (h .0)) (keeps-each f l (h .1)
 
 -- ---- one row
 
-module _ {n : ℕ} (slot : ℕ) (inside : slot < n) (f : Value → Metered Stop Meter Value) (lives : (v : Value) → Lives 0 entriesOf (f v)) (formed : (v : Value) → WellFormed v → Ensures WellFormed (f v)) where
-  settles : (e : ℕ) (s : Slots) → Held n e s → (x : Run Stop Meter Value) → LiveIn (s .meter .entries) entriesOf x → Holds WellFormed x →
+module _ {n : ℕ} (slot : ℕ) (inside : slot < n) (f : Value → Metered Stop Meter Value) (lives : (v : Value) → Lives 0 entriesOf (f v)) (formed : (v : Value) → Good v → Ensures Good (f v)) where
+  settles : (e : ℕ) (s : Slots) → Held n e s → (x : Run Stop Meter Value) → LiveIn (s .meter .entries) entriesOf x → Holds Good x →
       Ends (λ _ t. Held n e t) (λ _ t. Held n e t) (settled slot (valueAt (s .rows) slot) (s .rows) x)
   settles e s h (going new m) l w =
       completes (held-put {m = s .meter} {m′ = released (entriesOf (valueAt (s .rows) slot)) m} {rows = s .rows} slot new inside w h (omega (arith, total-part (s .rows) slot n inside, h .live)))
@@ -151,14 +151,14 @@ module _ {n : ℕ} (slot : ℕ) (inside : slot < n) (f : Value → Metered Stop 
   }
 
 module _ (constants : List ℕ) (small : All (λ c. c < 2 ^ 32) constants) {n : ℕ} (slot : ℕ) (inside : slot < n) where
-  pub keeps-meet : (v : Value) → WellFormed v → Keeps n (meetInto constants slot v)
-  keeps-meet v w = keeps-replace slot inside (λ old. meet constants old v) (λ old. live-as size-is (meet-lives constants old v)) (λ old g. meet-formed constants small old v g w)
+  pub keeps-meet : (v : Value) → Good v → Keeps n (meetInto constants slot v)
+  keeps-meet v w = keeps-replace slot inside (λ old. meet constants old v) (λ old. live-as size-is (meet-lives constants old v)) (λ old g. meet-good constants small old v g w)
 
   pub keeps-refine : (i : Interval) → Proper i → Keeps n (refineInto constants slot i)
-  keeps-refine i p = keeps-replace slot inside (λ old. refine constants old i) (λ old. live-as size-is (refine-lives constants old i)) (λ old g. refine-formed constants small old i g p)
+  keeps-refine i p = keeps-replace slot inside (λ old. refine constants old i) (λ old. live-as size-is (refine-lives constants old i)) (λ old g. refine-good constants small old i g p)
 
   -- the entries of the value in hand are live before, and not afterwards
-  pub owned-ends : (v : Value) → WellFormed v → (e : ℕ) (s : Slots) → Held n (e + entriesOf v) s → Ends (λ _ t. Held n e t) (λ _ t. Held n e t) (meetOwned constants slot v s)
+  pub owned-ends : (v : Value) → Good v → (e : ℕ) (s : Slots) → Held n (e + entriesOf v) s → Ends (λ _ t. Held n e t) (λ _ t. Held n e t) (meetOwned constants slot v s)
   unfolding meetOwned
   owned-ends v w e s h =
       ends-through (λ t. t) (λ _ t. fewer (entriesOf v) t) (λ _ t. fewer (entriesOf v) t) (λ x. x) {P = λ _ t. Held n (e + entriesOf v) t} {Q = λ _ t. Held n (e + entriesOf v) t}
@@ -196,7 +196,7 @@ module _ {n : ℕ} where
     where
       go : (e : ℕ) (s : Slots) → Held n e s → (o : Option (List ℕ)) → valueAt (s .rows) slot .values ≡ o → Held n e (slots (s .meter) (marked (s .rows) slot o))
       go e s h none q =
-          held-put slot (value (valueAt (s .rows) slot .bound) none (Some Dependency)) l record { interval = h .formed slot .interval; list = tt } h
+          held-put slot (value (valueAt (s .rows) slot .bound) none (Some Dependency)) l record { formed = record { interval = h .formed slot .formed .interval; list = tt }; tidy = record { sorted = tt; small = tt } } h
           (ap (λ (o : Option (List ℕ)). s .meter .entries + length (listOf o)) q)
       go e s h (some x) q = h
 
@@ -216,11 +216,11 @@ module _ {n : ℕ} where
 -- ---- a table that is filled: k rows stand, and there is room for all
 
 -- one row more; the entries of its value are live
-pub held-more : {k e : ℕ} {m m′ : Meter} {rows : List ℕ} (v : Value) → row * (k + 1) ≤ length rows → WellFormed v → Held k e (slots m rows) → m′ .entries ≡ m .entries + entriesOf v →
+pub held-more : {k e : ℕ} {m m′ : Meter} {rows : List ℕ} (v : Value) → row * (k + 1) ≤ length rows → Good v → Held k e (slots m rows) → m′ .entries ≡ m .entries + entriesOf v →
     Held (k + 1) e (slots m′ (put rows k v))
 unfolding total
 held-more {k} {rows = rows} v r w h q =
-    let b : entriesOf (valueAt (put rows k v) k) ≡ entriesOf v = ap entriesOf (put-back rows k v (omega arith) w) in
+    let b : entriesOf (valueAt (put rows k v) k) ≡ entriesOf v = ap entriesOf (put-back rows k v (omega arith) (w .formed)) in
     record {
       room = omega (arith, length-put rows k v);
       formed = formed-put rows k v (omega arith) w (h .formed);
@@ -245,42 +245,42 @@ tops-ends k (suc n) e s r h =
         ends-then {P = λ _ t. (t .rows ≡ s .rows) × Held k e t} {Q = λ _ t. (t .rows ≡ s .rows) × Held k e t} (paying (work 1)) (putting k (top None)) s (work-ends s h)
         (λ _ t p.
         completes (
-          held-more {m = t .meter} {m′ = t .meter} {rows = t .rows} (top None) (omega (arith, ap length (p .0))) (top-formed None) (p .1) (omega arith),
+          held-more {m = t .meter} {m′ = t .meter} {rows = t .rows} (top None) (omega (arith, ap length (p .0))) (top-good None) (p .1) (omega arith),
           omega (arith, length-put (t .rows) k (top None), ap length (p .0)),
           omega (arith, p .1 .live, h .live, ap (λ (l : List ℕ). total l k) (p .0)),
         ))
         (λ _ t p. omega (arith, p .1 .live, h .live, ap (λ (l : List ℕ). total l k) (p .0)))
 
 -- a value is made while the rows stay
-pub made-ends : {m : Metered Stop Meter Value} → Lives 0 entriesOf m → Ensures WellFormed m → (s : Slots) →
-    Ends (λ v t. WellFormed v × (t .rows ≡ s .rows) × (t .meter .entries ≡ s .meter .entries + entriesOf v)) (λ _ t. (t .rows ≡ s .rows) × (t .meter .entries ≡ s .meter .entries)) (paying m s)
+pub made-ends : {m : Metered Stop Meter Value} → Lives 0 entriesOf m → Ensures Good m → (s : Slots) →
+    Ends (λ v t. Good v × (t .rows ≡ s .rows) × (t .meter .entries ≡ s .meter .entries + entriesOf v)) (λ _ t. (t .rows ≡ s .rows) × (t .meter .entries ≡ s .meter .entries)) (paying m s)
 made-ends {m} l w s =
     ends-through (λ t. t .meter) (λ t u. slots u (t .rows)) (λ t u. slots u (t .rows)) (λ x. x) m s (live-ends l w (s .meter)) (λ v u q. (q .0, refl, q .1)) (λ _ u q. (refl, q))
 
 -- copies of values that are held elsewhere; all of them go where one is stopped
-module _ (domains : List ℕ) (formed : Formed domains) where
-  copy-ends : (k e : ℕ) (s : Slots) → Held k e s →
-      Ends (λ v t. WellFormed v × (t .rows ≡ s .rows) × (t .meter .entries ≡ s .meter .entries + entriesOf v)) (λ _ t. t .meter .entries ≡ e) (holdingRows k (paying (copied (valueAt domains k))) s)
-  copy-ends k e s h =
+module _ (domains : List ℕ) (bound : ℕ) (formed : (j : ℕ) → j < bound → Good (valueAt domains j)) where
+  copy-ends : (k e : ℕ) → k < bound → (s : Slots) → Held k e s →
+      Ends (λ v t. Good v × (t .rows ≡ s .rows) × (t .meter .entries ≡ s .meter .entries + entriesOf v)) (λ _ t. t .meter .entries ≡ e) (holdingRows k (paying (copied (valueAt domains k))) s)
+  copy-ends k e l s h =
       ends-through (λ t. t) (λ _ t. t) (λ _ t. fewer (total (t .rows) k) t) (λ x. x) (paying (copied (valueAt domains k))) s
-      (made-ends (live-as size-is (copied-lives (valueAt domains k))) (copied-formed (valueAt domains k) (formed k)) s)
+      (made-ends (live-as size-is (copied-lives (valueAt domains k))) (copied-good (valueAt domains k) (formed k l)) s)
       (λ v t q. q)
       (λ _ t q. omega (arith, q .1, h .live, ap (λ (l : List ℕ). total l k) (q .0)))
 
-  pub copies-ends : (k n e : ℕ) (s : Slots) → row * (k + n) ≤ length (s .rows) → Held k e s → Ends (λ _ t. Held (k + n) e t) (λ _ t. t .meter .entries ≡ e) (copies domains k n s)
+  pub copies-ends : (k n e : ℕ) → k + n ≤ bound → (s : Slots) → row * (k + n) ≤ length (s .rows) → Held k e s → Ends (λ _ t. Held (k + n) e t) (λ _ t. t .meter .entries ≡ e) (copies domains k n s)
   unfolding copies
-  copies-ends k zero e s r h = ends-pure tt s (rw (add-zero k) h)
-  copies-ends k (suc n) e s r h =
+  copies-ends k zero e l s r h = ends-pure tt s (rw (add-zero k) h)
+  copies-ends k (suc n) e l s r h =
       let q : k + suc n ≡ k + 1 + n = omega arith in
       rw q
-      (ends-bind (holdingRows k (paying (copied (valueAt domains k)))) (λ v. putting k v >> copies domains (k + 1) n) s (copy-ends k e s h)
+      (ends-bind (holdingRows k (paying (copied (valueAt domains k)))) (λ v. putting k v >> copies domains (k + 1) n) s (copy-ends k e (omega arith) s h)
       (λ v t p.
       ends-then {P = λ _ u. Held (k + 1) e u × (row * (k + 1 + n) ≤ length (u .rows))} {Q = λ _ u. u .meter .entries ≡ e} (putting k v) (copies domains (k + 1) n) t
       (completes (more k n e s r h v t p))
-      (λ _ u z. copies-ends (k + 1) n e u (z .1) (z .0))
+      (λ _ u z. copies-ends (k + 1) n e (omega arith) u (z .1) (z .0))
       (λ _ u z. z))
       (λ _ t p. p))
     where
-      more : (k n e : ℕ) (s : Slots) → row * (k + suc n) ≤ length (s .rows) → Held k e s → (v : Value) (t : Slots) → WellFormed v × (t .rows ≡ s .rows) × (t .meter .entries ≡ s .meter .entries + entriesOf v) →
+      more : (k n e : ℕ) (s : Slots) → row * (k + suc n) ≤ length (s .rows) → Held k e s → (v : Value) (t : Slots) → Good v × (t .rows ≡ s .rows) × (t .meter .entries ≡ s .meter .entries + entriesOf v) →
           Held (k + 1) e (slots (t .meter) (put (t .rows) k v)) × (row * (k + 1 + n) ≤ length (put (t .rows) k v))
       more k n e s r h v t p = rw (p .1) (held-more v (omega arith) (p .0) h (p .2), omega (arith, length-put (s .rows) k v))

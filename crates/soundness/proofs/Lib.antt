@@ -7,3 +7,8 @@ pub mod Guarding
 pub mod Firing
 pub mod Stored
 pub mod StoredLive
+pub mod Round
+pub mod Grounded
+pub mod Settled
+pub mod Ran
+pub mod Ties

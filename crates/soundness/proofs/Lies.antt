@@ -36,10 +36,10 @@ abbrev pub numberOf : Key → Option ℤ
 numberOf (keys.number z) = some z
 numberOf (name s) = none
 
-abbrev num : Value32 → Option ℤ
+abbrev pub num : Value32 → Option ℤ
 num k = numberOf (k .key)
 
-abbrev with-proper : (k : Key) → Proper k → Value32
+abbrev pub with-proper : (k : Key) → Proper k → Value32
 with-proper k p = record { key = k; proper = p }
 
 -- the constant i stands for k, and is retained
@@ -53,7 +53,7 @@ pub record Lies (key : ℕ → Option Key) (cells : List ℕ) (v : Value) (k : K
   pub list : Listed (Kept key cells) k (v .values)
 
 module _ (key : ℕ → Option Key) (cells : List ℕ) where
-  abbrev Stands : ℕ → Value32 → Type 0
+  abbrev pub Stands : ℕ → Value32 → Type 0
   Stands i k = Kept key cells i (k .key)
 
   listed-in : (k : Key) (p : Proper k) (o : Option (List ℕ)) → Listed (Kept key cells) k o → Listed Stands (with-proper k p) o

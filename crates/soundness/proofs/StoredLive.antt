@@ -30,7 +30,7 @@ use Rattle.soundness.proofs.Affine.{slot-inside}
 use Rattle.soundness.proofs.Stored.{bindings-inside, guards-inside}
 
 module _ (nodes : List ℕ) (expressions n : ℕ) where
-  abbrev here : Scope
+  abbrev pub here : Scope
   here = scope nodes expressions n
 
   children : (id l r : ℕ) (op : BinaryOp) → Scoped here id → expressionAt nodes id ≡ Binary op l r → Scoped here l × Scoped here r
@@ -49,12 +49,12 @@ module _ (nodes : List ℕ) (expressions n : ℕ) where
   shape-inside : (constants : List ℕ) (id : ℕ) → Scoped here id → AffineIn n (affine nodes constants id)
   shape-inside constants id h = affine-in nodes constants n (Scoped here) (λ i s sc e. slot-inside nodes expressions n i s e sc) children id h
 
-  guard-inside : (constants : List ℕ) (width : ℕ) (gs : List Guard) → All (GuardIn here) gs → All (guards.GuardIn n (input nodes constants width)) gs
+  pub guard-inside : (constants : List ℕ) (width : ℕ) (gs : List Guard) → All (GuardIn here) gs → All (guards.GuardIn n (input nodes constants width)) gs
   guard-inside constants width [] h = tt
   guard-inside constants width (Compare l relation r ∷ gs) h = ((shape-inside constants l (h .0 .0), shape-inside constants r (h .0 .1)), guard-inside constants width gs (h .1))
   guard-inside constants width (Membership slot low high ∷ gs) h = (h .0 .0, guard-inside constants width gs (h .1))
 
-  binding-inside : (count : ℕ) (bs : List Binding) → All (BindingIn count here) bs → All (SlotIn n) bs
+  pub binding-inside : (count : ℕ) (bs : List Binding) → All (BindingIn count here) bs → All (SlotIn n) bs
   binding-inside count [] h = tt
   binding-inside count (Positive slot a ∷ bs) h = (h .0 .0, binding-inside count bs (h .1))
   binding-inside count (Assign slot e ∷ bs) h = (h .0 .0, binding-inside count bs (h .1))

@@ -11,7 +11,7 @@ use Rattle.limits.proofs.Monad.{Ensures}
 use Rattle.limits.proofs.Ends.{Ends, ends-through, on-then}
 use Rattle.limits.proofs.Live.{Lives}
 use Rattle.rows.specs.Row.{row, entriesOf}
-use Rattle.rows.specs.WellFormed.{WellFormed}
+use Rattle.rows.proofs.Good.{Good}
 use Rattle.rules.specs.Read.{slotsAt, bindingsAt, guardsAt}
 use Rattle.slots.specs.Slots.{slots, total}
 use Rattle.slots.proofs.Live.{Formed, Held, SlotIn}
@@ -19,7 +19,7 @@ use Rattle.refinements.specs.Refinement.{refinementsOf}
 use Rattle.refinements.proofs.Theorems.{refinements-proper}
 use Rattle.evaluation.specs.Evaluation.{Input}
 use Rattle.evaluation.proofs.Live.{expression-lives}
-use Rattle.evaluation.proofs.Formed.{expression-formed}
+use Rattle.evaluation.proofs.Formed.{expression-good}
 use Rattle.bindings.specs.Bindings.{bind}
 use Rattle.bindings.proofs.Live.{bind-ends}
 use Rattle.guards.specs.Guards.{local, guard}
@@ -33,7 +33,7 @@ pub record Filled (n e : ℕ) (s : Frame) : Type 0 where
   pub produced : Formed (s .produced)
   pub refinements : All (λ c. c < 2 ^ 32) (s .refinements)
 
--- room for n rows before guards and after them, in tables that may hold anything of 32 bits
+-- room for n rows before guards and after them, in tables whose rows are values that the engine makes; refinements may be anything of 32 bits
 pub record Lent (n : ℕ) (s : Frame) : Type 0 where
   pub before : row * n ≤ length (s .domains)
   pub after : row * n ≤ length (s .produced)
@@ -72,7 +72,7 @@ unfolding head
 head-lives i produced refinements n id = expression-lives i produced (refinementsOf refinements n) id
 
 -- and a row holds what a head gives exactly
-pub head-formed : (i : Input) → All (λ c. c < 2 ^ 32) (i .constants) → (produced refinements : List ℕ) → Formed produced → All (λ c. c < 2 ^ 32) refinements → (n id : ℕ) →
-    Ensures WellFormed (head i produced refinements n id)
+pub head-good : (i : Input) → All (λ c. c < 2 ^ 32) (i .constants) → (produced refinements : List ℕ) → Formed produced → All (λ c. c < 2 ^ 32) refinements → (n id : ℕ) →
+    Ensures Good (head i produced refinements n id)
 unfolding head
-head-formed i small produced refinements f cells n id = expression-formed i small produced f (refinementsOf refinements n) (refinements-proper refinements 0 n cells) id
+head-good i small produced refinements f cells n id = expression-good i small produced f (refinementsOf refinements n) (refinements-proper refinements 0 n cells) id
