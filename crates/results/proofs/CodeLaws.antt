@@ -116,9 +116,9 @@ module _ (entries : ℕ) {c : Charged} {w : ℕ} where
   pub counted-going : c ≡ Paid w → CountedOf c entries (Going w entries)
   counted-going q = record { at = λ rows mw me. rw q }
 
-pub paid-counted : {m : Metered Stop Slots (Unit {0})} {w mw e me : ℕ} {rows rows′ : List ℕ} {c : Charged} {r : Counted} → Pays m w mw rows c rows′ → CountedOf c e r →
-    counted r rows′ mw me ≡ m (slots (meter w mw e me) rows)
-paid-counted {mw} {e} {me} {rows′} h k = k .at rows′ mw me ∙ h .at e me
+module _ (domains produced : List ℕ) (id me : ℕ) {count n : ℕ} (q : count ≡ n) {w mw e : ℕ} {bounds bounds′ : List ℕ} {c : Charged} (h : Pays (keepBoth domains produced count id) w mw bounds c bounds′) where
+  pub both-counted : {r : Counted} → CountedOf c e r → counted r bounds′ mw me ≡ keepBoth domains produced n id (slots (meter w mw e me) bounds)
+  both-counted k = k .at bounds′ mw me ∙ h .at e me ∙ ap (λ (m : ℕ). keepBoth domains produced m id (slots (meter w mw e me) bounds)) q
 
 -- ---- all rules, and the closing charge
 
