@@ -2,7 +2,7 @@
 use Prim.Native.Nat.{ℕ, suc, _+_, _-_, _*_, _<_, _≤_}
 use native.Mathlib.Omega.{arith}
 use mathlib.Core.Path.{_≡_, refl, sym, ap, _∙_}
-use mathlib.Core.Bool.{Bool, true, false, cond, _&&_}
+use mathlib.Core.Bool.{Bool, true, false}
 use mathlib.Core.List.{List}
 use borrow.Author.Tests.{lt-ltb, le-ltb}
 use lib.Seq.{sets}
@@ -26,19 +26,19 @@ use Rattle.limits.proofs.Onward.{onward-begins}
 use Rattle.interval.specs.declared.Bound.{Bound}
 use Rattle.lattice.specs.Value.{Value}
 use Rattle.rows.specs.Row.{boundCells, valueAt}
+use Rattle.store.specs.declared.Context.{Context}
 use Rattle.slots.specs.declared.Counted.{Counted}
 use Rattle.slots.specs.declared.Counted.the-variants.{Going}
 use Rattle.slots.specs.declared.Counted.the-variants as counts
 use Rattle.slots.specs.Slots.{Slots, slots, total, step}
 use Rattle.slots.specs.Answers.{counted, paid, Pays}
 use Rattle.slots.proofs.CodeLaws.{Paying, pays-on}
-use Rattle.store.specs.declared.Context.{Context}
 use Rattle.evaluation.specs.Evaluation.{Input, input}
 use Rattle.rounds.specs.declared.Ran.{Ran}
 use Rattle.rounds.specs.declared.Ran.the-variants as runs
 use Rattle.rounds.specs.Round.{Given, given, Standing, standing, charging, eachRule, image, blank, candidatesOf, candidates, moved}
 use Rattle.rounds.specs.Answers.{ran}
-use Rattle.results.specs.Result.{place, putBound, keeping, keep, keepBoth, bound, close, inCourse, taking, lastRound, Ending, ending, inValues, inBounds, closing, last}
+use Rattle.results.specs.Result.{place, putBound, keeping, keep, keepBoth, bound, close, inCourse, taking, lastRound, Ending, ending, inValues, closing, last}
 use Rattle.results.specs.Answers.{ended, CountedOf}
 use Rattle.results.proofs.Limits.{last-limits}
 

@@ -8,11 +8,11 @@ use Rattle.limits.specs.declared.Limits.{Limits}
 use Rattle.limits.specs.declared.Budget.{Budget}
 use Rattle.limits.specs.Metered.{Run, going, stopped, Metered, _>>_}
 use Rattle.limits.specs.Budget.{round}
+use Rattle.limits.specs.Meter.{meterOf}
 use Rattle.limits.proofs.ChargeLaws.{accepted-adds}
 use Rattle.limits.proofs.Ends.{Ends, completes, stops, ends-pure, ends-then, ends-through, on-bind, in-some-way, where-going}
-use Rattle.slots.specs.Slots.{Slots, slots, copies}
-use Rattle.limits.specs.Meter.{meterOf}
 use Rattle.rules.specs.Read.{contextAt}
+use Rattle.slots.specs.Slots.{Slots, slots, copies}
 use Rattle.rounds.specs.Round.{Given, Standing, standing, charging, inTable, holdingRows, entering, eachRule, apply, produce, image, Course, course, blank, candidatesOf, candidates}
 use Rattle.results.specs.Result.{taking, lastRound}
 
@@ -31,6 +31,13 @@ module _ (l : Limits) where
       ends-then (entering (contextAt rules k)) (inTable (f k) >> eachRule rules f (k + 1) n) s entered
       (λ _ t p. ends-then (inTable (f k)) (eachRule rules f (k + 1) n) t (table-under (f k) t p) (λ _ u q. rules-under rules f (k + 1) n u q) (λ _ _ _. tt)) (λ _ _ _. tt)
 
+  round-under : (s : Standing) → s .budget .limits ≡ l → Under l (charging round s)
+  round-under s h = ends-through _ _ _ _ round s (go (round (s .budget)) refl) (λ _ _ q. q ∙ h) (λ _ _ _. tt)
+    where
+      go : (x : Run Stop Budget (Unit {0})) → round (s .budget) ≡ x → Ends (λ _ b. b .limits ≡ s .budget .limits) (λ _ _. Unit {0}) x
+      go (going tt b) e = completes (accepted-adds Rounds 1 (s .budget) e .limits)
+      go (stopped e b) _ = stops tt
+
   module _ (g : Given) (previous : List ℕ) where
     abbrev applying : Metered Stop Standing (Unit {0})
     applying = eachRule (g .rules) (apply (g .input) (g .rules) previous) 0 (g .count)
@@ -40,13 +47,6 @@ module _ (l : Limits) where
     produce-under s h =
         ends-then (inTable (copies (g .seeds) 0 (g .positions))) (holdingRows (g .positions) applying) s (table-under (copies (g .seeds) 0 (g .positions)) s h)
         (λ _ t p. ends-through _ _ _ _ applying t (rules-under (g .rules) (apply (g .input) (g .rules) previous) 0 (g .count) t p) (λ _ _ q. q) (λ _ _ _. tt)) (λ _ _ _. tt)
-
-    round-under : (s : Standing) → s .budget .limits ≡ l → Under l (charging round s)
-    round-under s h = ends-through _ _ _ _ round s (go (round (s .budget)) refl) (λ _ _ q. q ∙ h) (λ _ _ _. tt)
-      where
-        go : (x : Run Stop Budget (Unit {0})) → round (s .budget) ≡ x → Ends (λ _ b. b .limits ≡ s .budget .limits) (λ _ _. Unit {0}) x
-        go (going tt b) e = completes (accepted-adds Rounds 1 (s .budget) e .limits)
-        go (stopped e b) _ = stops tt
 
     pub image-under : (s : Standing) → s .budget .limits ≡ l → Under l (image g previous s)
     unfolding image
