@@ -99,3 +99,53 @@ module _ {p : Accepted} {t : input.Tables} (g : Grounded p t) where
           room = q .rounded .room;
           holds = holds-as o (q .rounded .result) (u .current) (q .rounded .rows) (λ fs a k x. reaches-both g o thresholds numbers e (q .values) (q .rounded .result) (q .closed) (q .rounded .is) fs a k x .1);
         }
+
+  -- ---- the run as a whole
+
+  -- what a run leaves: u from the state s that it was lent
+  pub data Ran (s u : Tables) : Type 0 where
+    ended : u .header .phase ≡ Completed → u .header .counts .positions ≡ n → u .header .budget .statistics .entries ≡ total (u .arguments) n → ((o : Opaque) → Holds o (u .arguments)) → Ran s u
+    halted : {e : Stop} {c : Context} → u .header .phase ≡ Stopped e c → u .header .budget .statistics .entries ≡ total (t .seeds) n → u .arguments ≡ s .arguments → u .slots ≡ s .slots → Ran s u
+
+  module _ (numbers : All Number (t .thresholds)) (few : t .header .counts .thresholds + 2 ≤ length (t .thresholds)) (arguments slots : List ℕ) (size : row * n ≤ length arguments) where
+    abbrev lent : Tables
+    lent = tables (t .header) (t .thresholds) arguments slots
+
+    abbrev e : ℕ
+    e = t .header .budget .statistics .entries
+
+    seeds-live : e ≡ total (t .seeds) n
+    seeds-live = g .reached .standing .live ∙ same-total (t .seeds) n
+
+    -- an opaque function without values, where any will do
+    abbrev some-opaque : Opaque
+    some-opaque = record { one = λ _ _. none; two = λ _ _ _. none }
+
+    conclude-sound : (th : List ℤ) (all : All Number th) (m : ℕ) (marks : List ℤ) (x : Run Stop Progress (Unit {0})) →
+        Ends (λ _ u. Finished th all e some-opaque (u .budget .statistics .entries) (u .current) × ((o : Opaque) → Holds o (u .current))) (λ _ u. u .budget .statistics .entries ≡ e + total (u .current) n) x →
+        Ran lent (concluded (t .seeds) m marks lent x)
+    conclude-sound th all m marks x (completes {a = a} {s = u} h) =
+        ended refl refl (omega (arith, h .0 .live, seeds-live, moved-total (u .current) arguments (h .0 .room .1) n size))
+        (λ o. holds-as o (u .current) (moved (u .current) n arguments) (λ j l. moved-row (u .current) arguments (h .0 .room .1) n j size l) (h .1 o))
+    conclude-sound th all m marks x (stops {e = r} {s = u} h) = halted refl (omega (arith, seeds-live)) refl refl
+
+    pub ran-sound : Ran lent (ranOn (read (t .nodes) (t .constants) (t .rules) (t .seeds)) lent)
+    unfolding ranOn
+    ran-sound =
+        go _
+        (begin-ends (t .seeds) n (seeds-good g some-opaque blank blank-room) e (beginning (entry (t .header .budget) (t .header .counts .thresholds) (t .thresholds)) blank (replicate 512 0)) (g .reached .rises) numbers few
+        (blank-room .0) (blank-formed (row * 256)) refl)
+      where
+        blank-room : Room n blank
+        blank-room = (rw (length-replicate {A = ℕ} (row * 256) 0) (omega (arith, g .reached .counted .positions)), blank-formed (row * 256))
+
+        go : (x : Run Stop Beginning (Unit {0})) →
+            Ends (λ _ b. Sown (t .seeds) n e (b .entry .budget .statistics .entries) (b .current) × Ended (entry (t .header .budget) (t .header .counts .thresholds) (t .thresholds)) (b .entry)) (λ _ b. b .entry .budget .statistics .entries ≡ e) x →
+            Ran lent (finished (read (t .nodes) (t .constants) (t .rules) (t .seeds)) lent x)
+        go x (completes {a = a} {s = b} h) =
+            let th = take (b .entry .count) (b .entry .table) in
+            let all = all-take Number (b .entry .count) (b .entry .table) (h .1 .marks .numbers) in
+            let at = progress (b .entry .budget) (t .header .context) (b .current) (b .growth) (replicate 32768 0) in
+            conclude-sound th all (b .entry .count) (b .entry .table) _
+            (ends-all (λ o _ u. Holds o (u .current)) (finish-sound th all e some-opaque at (h .0)) (λ o. ends-as (finish-sound th all e o at (h .0)) (λ _ u q. q .holds) (λ _ _ _. tt)))
+        go x (stops h) = halted refl (h ∙ seeds-live) refl refl
