@@ -1,5 +1,5 @@
 pub mod Kept
 pub mod CodeLaws
 pub mod RunLaws
-pub mod Ended
+pub mod Finished
 pub mod Begun

@@ -32,7 +32,7 @@ use Rattle.rounds.proofs.Live.{Room, blank-formed}
 use Rattle.engine.specs.Run.{Beginning, beginning, begin, Progress, progress, finish}
 use Rattle.engine.specs.Call.{Tables, tables, read, concluded, finished, ranOn}
 use Rattle.engine.specs.Call as engine
-use Rattle.engine.proofs.Ended.{Settled, finish-alone, finish-ends}
+use Rattle.engine.proofs.Finished.{Settled, finish-alone, finish-ends}
 use Rattle.engine.proofs.Begun.{Ended, Sown, begin-ends, all-take}
 use Rattle.input.specs.Input as input
 use Rattle.soundness.specs.Plain.{Opaque, State}
