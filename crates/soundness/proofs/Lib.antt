@@ -12,3 +12,8 @@ pub mod Grounded
 pub mod Settled
 pub mod Ran
 pub mod Ties
+pub mod TiedKeys
+pub mod TiedRows
+pub mod ClosedCalls
+pub mod Phases
+pub mod Theorem

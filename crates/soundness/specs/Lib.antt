@@ -1,3 +1,4 @@
 pub mod Plain
 pub mod Tied
 pub mod Run
+pub mod Claim
