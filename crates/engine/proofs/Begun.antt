@@ -6,8 +6,7 @@ use mathlib.Core.List.{List, [], _∷_}
 use lib.IntN.{ℤ}
 use lib.ListN.{length, take, drop}
 use Rattle.integers.specs.Order.{Number, least32, greatest32}
-use Rattle.integers.specs.Lists.{All, inserted}
-use Rattle.integers.proofs.Stores.{all-sets}
+use Rattle.integers.specs.Lists.{All}
 use Rattle.limits.specs.declared.Stop.{Stop}
 use Rattle.limits.specs.declared.Budget.{Budget}
 use Rattle.limits.specs.declared.Resource.the-variants.{Work}
@@ -18,39 +17,17 @@ use Rattle.limits.proofs.Ends.{Ends, completes, stops, ends-as, ends-both, ends
 use Rattle.rows.specs.Row.{row, valueAt}
 use Rattle.rows.proofs.Good.{Good}
 use Rattle.thresholds.specs.Thresholds.{Entry, entry, enter}
-use Rattle.thresholds.proofs.Outcomes.{Charging, charging-none, charging-more, Leaves, standing, new, refused, enter-leaves}
+use Rattle.thresholds.proofs.Outcomes.{Charging, charging-more}
+use Rattle.thresholds.proofs.Numbers.{enter-numbers}
 use Rattle.thresholds.proofs.Sorted.{Rises, Has, Kept, Ending, enter-keeps}
 use Rattle.slots.specs.Slots.{Slots, slots, total, copies}
 use Rattle.slots.proofs.Live.{Formed, Held, copies-ends}
-use Rattle.rounds.proofs.Charging.{charge-ends}
+use Rattle.limits.proofs.Charging.{charge-ends}
 use Rattle.rounds.proofs.Copied.{Same, copies-same}
 use Rattle.rounds.proofs.Live.{Room}
 use Rattle.engine.specs.Run.{enterEnds, Start, start, copying, charging, clearing, seeded, Beginning, beginning, inEntry, inStart, begin}
 
 -- ---- thresholds
-
-pub all-take : {A : Type 0} (P : A → Type 0) (n : ℕ) (l : List A) → All P l → All P (take n l)
-all-take P zero l h = tt
-all-take P (suc n) [] h = tt
-all-take P (suc n) (x ∷ l) h = (h .0, all-take P n l (h .1))
-
-all-drop : {A : Type 0} (P : A → Type 0) (n : ℕ) (l : List A) → All P l → All P (drop n l)
-all-drop P zero l h = h
-all-drop P (suc n) [] h = tt
-all-drop P (suc n) (x ∷ l) h = all-drop P n l (h .1)
-
--- what a threshold that is entered has, and all that stand have, all have then
-all-inserted : (P : ℤ → Type 0) (l : List ℤ) (at count : ℕ) (v : ℤ) → All P l → P v → All P (inserted l at count v)
-unfolding inserted
-all-inserted P l at count v h p = all-sets P l at (v ∷ take (count - at) (drop at l)) h (p, all-take P (count - at) (drop at l) (all-drop P at l h))
-
-enter-all : (P : ℤ → Type 0) (v : ℤ) → P v → (s : Entry) → All P (s .table) → Ends (λ _ t. All P (t .table)) (λ _ t. All P (t .table)) (enter v s)
-enter-all P v p s h = go (enter-leaves v s)
-  where
-    go : {x : Run Stop Entry (Unit {0})} → Leaves v s x → Ends (λ _ t. All P (t .table)) (λ _ t. All P (t .table)) x
-    go (standing c k l) = completes h
-    go (new {low = low} c k l) = completes (all-inserted P (s .table) low (s .count) v h p)
-    go (refused c) = stops h
 
 ending-ends : {P Q : Entry → Type 0} (x : Run Stop Entry (Unit {0})) → Ending P Q x → Ends (λ _ t. P t) (λ _ t. Q t) x
 ending-ends (going a s) h = completes h
@@ -66,7 +43,7 @@ pub record Marks (room : ℕ) (s t : Entry) : Type 0 where
 
 one-marks : (v : ℤ) → Number v → (s : Entry) → Rises (s .count) (s .table) → All Number (s .table) → s .count < length (s .table) → Ends (λ _ t. (Marks 1 s t × Has t v) × Charging (s .budget) (t .budget)) (λ _ t. Marks 1 s t × Charging (s .budget) (t .budget)) (enter v s)
 one-marks v p s r a l =
-    ends-as (ends-both (ending-ends (enter v s) (enter-keeps v s r l)) (enter-all Number v p s a))
+    ends-as (ends-both (ending-ends (enter v s) (enter-keeps v s r l)) (enter-numbers v p s a))
     (λ _ t h. ((marks t (h .0 .0) (h .1), h .0 .1), h .0 .0 .charging)) (λ _ t h. (marks t (h .0) (h .1), h .0 .charging))
   where
     marks : (t : Entry) → Kept (λ z. z ≡ v) 1 s t → All Number (t .table) → Marks 1 s t

@@ -16,7 +16,7 @@ use Rattle.thresholds.specs.Thresholds.{Entry, entry, enter}
 use Rattle.thresholds.proofs.Outcomes.{Leaves, standing, new, refused, enter-leaves}
 use Rattle.slots.specs.Slots.{slots, total, copies}
 use Rattle.rounds.specs.Round.{Given}
-use Rattle.rounds.proofs.Charging.{charge-ends}
+use Rattle.limits.proofs.Charging.{charge-ends}
 use Rattle.passes.specs.Pass.{Ascent, pass, passes, ascend}
 use Rattle.passes.proofs.Rounds.{pass-ends}
 use Rattle.engine.specs.Run.{enterEnds, Start, start, charging, clearing, seeded, Beginning, beginning, inStart, begin}

@@ -197,7 +197,7 @@ module _ {t : Tables} (r : Reached t) (k : Key) where
             };
           }
 
-      few : (u ≡ forConstant t) ⊎ (spacious (t .header .counts) ≡ true) → u .header .counts .thresholds ≤ 4096
+      few : (u ≡ forConstant t) ⊎ (spacious (t .header .counts) ≡ true) → u .header .counts .thresholds ≤ 4094
       few (inl e) = rw e (r .counted .thresholds)
       few (inr h) = omega (arith, room-yes (t .header .counts) h .1 .1, d .still .thresholds .most)
 

@@ -124,7 +124,7 @@ pub record Beyond (t u : Tables) : Type 0 where
   pub rises : Rises (u .header .counts .thresholds) (u .thresholds)
   pub old : Stay t u
   pub marks : length (u .thresholds) ≡ length (t .thresholds)
-  pub few-marks : u .header .counts .thresholds ≤ 4096
+  pub few-marks : u .header .counts .thresholds ≤ 4094
   pub records : length (u .records) ≡ length (t .records)
   pub few-records : u .header .counts .provenance ≤ 1024
 

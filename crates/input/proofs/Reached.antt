@@ -59,7 +59,7 @@ pub record Counted (n : Counts) : Type 0 where
   pub constants : n .constants ≤ 1024
   pub keys : n .keys ≤ 1024
   pub expressions : n .expressions ≤ 1024
-  pub thresholds : n .thresholds ≤ 4096
+  pub thresholds : n .thresholds ≤ 4094
   pub provenance : n .provenance ≤ 1024
   pub rules : n .rules ≤ 256
 

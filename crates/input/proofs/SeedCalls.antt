@@ -155,7 +155,7 @@ seed-value-keeps a k t r =
 -- ---- `seed_interval`
 
 module _ {t : Tables} (r : Reached t) (a : ℕ) (low high : ℤ) where
-  interval-beyond : {u : seeds.IntervalTables} → Marked (NearEither low high) (t .header) (t .thresholds) (u .header) (u .thresholds) → u .header .counts .thresholds ≤ 4096 →
+  interval-beyond : {u : seeds.IntervalTables} → Marked (NearEither low high) (t .header) (t .thresholds) (u .header) (u .thresholds) → u .header .counts .thresholds ≤ 4094 →
       length (u .records) ≡ length (t .records) → u .header .counts .provenance ≤ 1024 → Beyond t (fromInterval u t)
   interval-beyond m f z l = record { rises = m .rises; old = m .old; marks = m .size; few-marks = f; records = z; few-records = l }
 

@@ -7,8 +7,8 @@ use mathlib.Core.Path.{_≡_, refl, sym, ap, subst, _∙_}
 use mathlib.Core.List.{List, _∷_}
 use lib.ListN.{length, getD, take, drop, set, length-set, length-take, length-drop}
 use lib.Seq.{sets, length-sets, drop-cons, drop-set-lt, getD-take, getD-drop}
-use Rattle.integers.specs.Lists.{inserted}
-use Rattle.integers.proofs.Stores.{sets-before, sets-after, sets-in, sets-out}
+use Rattle.integers.specs.Lists.{All, inserted}
+use Rattle.integers.proofs.Stores.{sets-before, sets-after, sets-in, sets-out, all-sets, all-take, all-drop}
 
 module _ {A : Type 0} where
   -- ---- a cell at a time: what is to come of it, r, is what v makes of l when it is inserted at i
@@ -77,3 +77,8 @@ module _ {A : Type 0} where
       pub inserted-beyond : (k : ℕ) → count < k → getD (inserted l at count v) k z ≡ getD l k z
       unfolding inserted
       inserted-beyond k b = sets-after z (v ∷ take (count - at) (drop at l)) l at k (omega (arith, moved))
+
+  -- what every element has, and what is inserted has, all have then
+  pub all-inserted : (P : A → Type 0) (l : List A) (at count : ℕ) (v : A) → All P l → P v → All P (inserted l at count v)
+  unfolding inserted
+  all-inserted P l at count v h p = all-sets P l at (v ∷ take (count - at) (drop at l)) h (p, all-take P (count - at) (drop at l) (all-drop P at l h))

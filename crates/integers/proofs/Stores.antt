@@ -117,3 +117,14 @@ all-set P (a ∷ l) (suc i) v h p = (h .0, all-set P l i v (h .1) p)
 pub all-sets : {A : Type 0} (P : A → Type 0) (l : List A) (i : ℕ) (vs : List A) → All P l → All P vs → All P (sets l i vs)
 all-sets P l i [] h p = h
 all-sets P l i (v ∷ vs) h p = all-sets P (set l i v) (suc i) vs (all-set P l i v h (p .0)) (p .1)
+
+-- what every element has, every element of a part has
+pub all-take : {A : Type 0} (P : A → Type 0) (n : ℕ) (l : List A) → All P l → All P (take n l)
+all-take P zero l h = tt
+all-take P (suc n) [] h = tt
+all-take P (suc n) (x ∷ l) h = (h .0, all-take P n l (h .1))
+
+pub all-drop : {A : Type 0} (P : A → Type 0) (n : ℕ) (l : List A) → All P l → All P (drop n l)
+all-drop P zero l h = h
+all-drop P (suc n) [] h = tt
+all-drop P (suc n) (x ∷ l) h = all-drop P n l (h .1)

@@ -1,3 +1,4 @@
 pub mod Cousot
 pub mod Interval
 pub mod Bound
+pub mod Proper

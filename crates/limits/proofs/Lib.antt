@@ -5,3 +5,4 @@ pub mod ChargeLaws
 pub mod Ends
 pub mod Onward
 pub mod Alike
+pub mod Charging

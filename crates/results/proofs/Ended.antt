@@ -15,7 +15,7 @@ use Rattle.slots.specs.Slots.{slots, total, step}
 use Rattle.slots.proofs.Live.{Formed}
 use Rattle.evaluation.specs.Evaluation.{Input}
 use Rattle.rounds.specs.Round.{Given, Standing, standing, charging, eachRule, Course, course, candidates, moved}
-use Rattle.rounds.proofs.Charging.{charge-ends}
+use Rattle.limits.proofs.Charging.{charge-ends}
 use Rattle.rounds.proofs.Brings.{Brings, brings-pure, brings-then, brings-step, brings-locals, Stands, rules-keep}
 use Rattle.rounds.proofs.Moved.{length-moved, moved-row, moved-formed, moved-total}
 use Rattle.rounds.proofs.Live.{Fit, Legible, local-live, Room}

@@ -1,5 +1,4 @@
 pub mod CodeLaws
-pub mod Charging
 pub mod Brings
 pub mod Joined
 pub mod Moved

@@ -33,7 +33,7 @@ use Rattle.transfer.proofs.Live.{Filled, Lent, rule-ends, head-good}
 use Rattle.rounds.specs.Locals.{Locals, locals, fill, blank, localsOf, local}
 use Rattle.rounds.specs.Round.{Given, Standing, standing, inTable, holdingRows, eachRule, joinHead, apply, produce, image, Course, course, candidatesOf, candidates}
 use Rattle.rounds.specs.Round.{blank as table}
-use Rattle.rounds.proofs.Charging.{charge-ends}
+use Rattle.limits.proofs.Charging.{charge-ends}
 use Rattle.rounds.proofs.Brings.{Brings, rowsOf, held, brings-each, brings-locals, Stands, rules-keep}
 use Rattle.rounds.proofs.Joined.{brings-head}
 

@@ -3,16 +3,9 @@ use Prim.Native.Nat.{ℕ, _≤_, _<_, _^_}
 use mathlib.Core.List.{List}
 use mathlib.Core.Option.{Option, some, none}
 use lib.ListN.{length}
-use Rattle.integers.specs.Order.{Le, Number}
 use Rattle.integers.specs.Lists.{All}
-use Rattle.interval.specs.declared.Interval.{Interval}
-use Rattle.interval.specs.declared.Interval.the-variants.{Bottom, Bounded, Unbounded}
+pub use Rattle.interval.specs.Proper.{Proper}
 use Rattle.lattice.specs.Value.{Value}
-
-abbrev pub Proper : Interval → Type 0
-Proper Bottom = Unit {0}
-Proper (Bounded low high) = Number low × (Number high × Le low high)
-Proper Unbounded = Unit {0}
 
 abbrev pub Short : Option (List ℕ) → Type 0
 Short none = Unit {0}

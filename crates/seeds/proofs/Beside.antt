@@ -207,15 +207,3 @@ charged-ends {P} {Q} m s h =
     (λ _ b p. (b, p, refl)))
     (λ _ t p. p)
     (λ x t p. (late (x .resource), x, p .0, p .1, p .2))
-
--- a budget that was charged
-abbrev pub billed : Resource → ℕ → Budget → Budget
-billed r n b = withStatistics (withCount r (countOf r (b .statistics) + n) (b .statistics)) b
-
-pub charge-ends : (r : Resource) (n : ℕ) (b : Budget) → Ends (λ _ c. c ≡ billed r n b) (λ _ c. c ≡ b) (charge r n b)
-unfolding charge chargeOf
-charge-ends r n b = go (leb (countOf r (b .statistics) + n) (limitOf r (b .limits))) _ _
-  where
-    go : (t : Bool) (e : Stop) (k : ℕ) → Ends (λ _ c. c ≡ billed r n b) (λ _ c. c ≡ b) (budgets.charged r b (cond t (Paid (countOf r (b .statistics) + n)) (Stopped e k)))
-    go true e k = completes refl
-    go false e k = stops refl

@@ -170,7 +170,7 @@ pub record IntervalTaken (constants : List ℕ) (a : ℕ) (low high : ℤ) (t t�
   pub fits : t .header .counts .provenance ≤ 1024 → t′ .header .counts .provenance ≤ 1024
   -- both ends stand among the thresholds, with their neighbours
   pub marked : Marked (NearEither low high) (t .header) (t .thresholds) (t′ .header) (t′ .thresholds)
-  pub marks-fit : t .header .counts .thresholds ≤ 4096 → t′ .header .counts .thresholds ≤ 4096
+  pub marks-fit : t .header .counts .thresholds ≤ 4094 → t′ .header .counts .thresholds ≤ 4094
   pub low-stands : Surrounded low (marksOf (t′ .header) (t′ .thresholds))
   pub high-stands : Surrounded high (marksOf (t′ .header) (t′ .thresholds))
   -- the ends ascend and the argument exists; its seed is joined with the interval, and the others are as they were
@@ -189,7 +189,7 @@ pub record IntervalRefused (a : ℕ) (low high : ℤ) (x : Told) (t t′ : Inter
   pub noted : Noted a None (t .header .counts .provenance) (t .records) (t′ .header .counts .provenance) (t′ .records) ⊎ Noted a (t .header .context) (t .header .counts .provenance) (t .records) (t′ .header .counts .provenance) (t′ .records)
   pub fits : t .header .counts .provenance ≤ 1024 → t′ .header .counts .provenance ≤ 1024
   pub marked : Marked (NearEither low high) (t .header) (t .thresholds) (t′ .header) (t′ .thresholds)
-  pub marks-fit : t .header .counts .thresholds ≤ 4096 → t′ .header .counts .thresholds ≤ 4096
+  pub marks-fit : t .header .counts .thresholds ≤ 4094 → t′ .header .counts .thresholds ≤ 4094
   -- a store that is closed or has no room, and tables of another size, are left whole
   pub whole : x .number ≤ 2 → t′ ≡ t
 

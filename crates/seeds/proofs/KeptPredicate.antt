@@ -24,7 +24,8 @@ use Rattle.store.specs.Calls.{open?, charged, declared, roomFor, addPredicate, 
 use Rattle.store.specs.Calls as store
 use Rattle.store.proofs.CodeLaws.{room-yes}
 use Rattle.seeds.proofs.Seeded.{bottoms-length, bottoms-old, bottoms-new, seeded-bottoms, live-bottoms, lost-bottoms}
-use Rattle.seeds.proofs.Beside.{Standing, Quiet, Bill, same-bill, quiet-bill, charged-ends, billed, charge-ends}
+use Rattle.limits.proofs.Charging.{billed, charge-ends}
+use Rattle.seeds.proofs.Beside.{Standing, Quiet, Bill, same-bill, quiet-bill, charged-ends}
 
 -- ---- `predicate`
 
@@ -115,7 +116,7 @@ module _ (constants : List ℕ) (arity : ℕ) (t : store.Tables) (stands : Stand
       (charged (work 1)) t
       (charged-ends (work 1) (t .header) (charge-ends Work 1 (t .header .budget)))
       (λ _ s q. rw (q .2, q .1))
-      (λ x s q. rw (q .4, q .3) record { left = inl refl; same = refl; same-rows = refl; quiet = quiet-bill (t .header) (same-bill (t .header .budget)); whole = λ _. refl }))
+      (λ x s q. rw (q .4, q .3 .1) record { left = inl refl; same = refl; same-rows = refl; quiet = quiet-bill (t .header) (same-bill (t .header .budget)); whole = λ _. refl }))
       (λ _ u p.
       rw p
       (ends-then _ _ (store.tables worked (t .rows) (t .seeds))

@@ -23,7 +23,7 @@ use Rattle.interval.specs.declared.Bound.{Bound}
 use Rattle.interval.specs.declared.Constant.{Constant}
 use Rattle.interval.specs.declared.Constant.the-variants.{Number as number, Name, Large}
 use Rattle.interval.specs.Bound as bounds
-use Rattle.lists.specs.Lists.{mix, union}
+use Rattle.lists.specs.Lists.{union}
 use Rattle.lists.proofs.ListLaws.{Sorted, room}
 use Rattle.lists.proofs.Unions.{union-increasing}
 use Rattle.lattice.specs.declared.Widening.the-variants.{SymbolSize, ValueWidth}
@@ -37,6 +37,7 @@ use Rattle.rows.specs.Row.{row, entriesOf, valueAt, put}
 use Rattle.rows.specs.WellFormed.{Proper, Short, WellFormed}
 use Rattle.rows.proofs.RowLaws.{length-put, put-back, put-other}
 use Rattle.rows.proofs.Formed.{proper-hull}
+use Rattle.rows.proofs.Good.{all-union}
 use Rattle.store.specs.Calls.{bottoms}
 use Rattle.seeds.specs.Seed.{loses}
 
@@ -240,15 +241,6 @@ constant-is id Name width = listed-is id (bounds.constantOf Name) width
 constant-is id Large width = by-pure _ refl
 
 -- ---- a join of two
-
-all-mix : (P : ℕ → Type 0) (x : ℕ) (rest : List ℕ → List ℕ) → P x → ((ys : List ℕ) → All P ys → All P (rest ys)) → (ys : List ℕ) → All P ys → All P (mix x rest ys)
-all-mix P x rest p r [] q = (p, r [] tt)
-all-mix P x rest p r (y ∷ ys) q =
-    by-cond (All P) (ltb x y) (λ _. (p, r (y ∷ ys) q)) (λ _. by-cond (All P) (ltb y x) (λ _. (q .0, all-mix P x rest p r ys (q .1))) (λ _. (p, r ys (q .1))))
-
-all-union : (P : ℕ → Type 0) (xs ys : List ℕ) → All P xs → All P ys → All P (union xs ys)
-all-union P [] ys p q = q
-all-union P (x ∷ xs) ys p q = all-mix P x (union xs) (p .0) (λ zs r. all-union P xs zs (p .1) r) ys q
 
 module _ (width k : ℕ) (constants : List ℕ) where
   list-regular : (b : Bound) (r : Reason) (x y : Option (List ℕ)) → Proper (b .interval) → Short x → Short y → Sorted x → Sorted y → Known k constants x → Known k constants y →

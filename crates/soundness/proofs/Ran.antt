@@ -12,6 +12,7 @@ use lib.ListN.{length, take, replicate, length-replicate}
 use lib.Seq.{sets}
 use Rattle.integers.specs.Order.{Number}
 use Rattle.integers.specs.Lists.{All}
+use Rattle.integers.proofs.Stores.{all-take}
 use Rattle.limits.specs.declared.Stop.{Stop}
 use Rattle.limits.specs.Metered.{Run, going, stopped}
 use Rattle.limits.proofs.Ends.{Ends, completes, stops, ends-as}
@@ -33,7 +34,7 @@ use Rattle.engine.specs.Run.{Beginning, beginning, begin, Progress, progress, f
 use Rattle.engine.specs.Call.{Tables, tables, read, concluded, finished, ranOn}
 use Rattle.engine.specs.Call as engine
 use Rattle.engine.proofs.Finished.{Settled, finish-alone, finish-ends}
-use Rattle.engine.proofs.Begun.{Ended, Sown, begin-ends, all-take}
+use Rattle.engine.proofs.Begun.{Ended, Sown, begin-ends}
 use Rattle.input.specs.Input as input
 use Rattle.soundness.specs.Plain.{Opaque, State}
 use Rattle.soundness.specs.Run.{Accepted, Seeded, Firing, Produces, fired, Reaches}

@@ -10,10 +10,9 @@ use mathlib.Core.Option.{Option, some, none}
 use borrow.Author.Tests.{eq-eqb, ne-eqb, leb-true}
 use lib.Dec.{leb, ltb, eqb}
 use lib.IntN.{ℤ, pos, _+ℤ_, _-ℤ_}
-use lib.ListN.{length, take, drop}
-use Rattle.integers.specs.Order.{Number, number?}
-use Rattle.integers.specs.Lists.{All, inserted}
-use Rattle.integers.proofs.OrderLaws.{number-yes}
+use lib.ListN.{length}
+use Rattle.integers.specs.Order.{Number}
+use Rattle.integers.specs.Lists.{All}
 use Rattle.integers.proofs.Stores.{all-sets}
 use Rattle.limits.specs.declared.Limits.{Limits}
 use Rattle.limits.specs.declared.Stop.{Stop}
@@ -25,8 +24,8 @@ use Rattle.limits.proofs.Ends.{Ends, completes, stops, ends-pure, ends-test, en
 use Rattle.cells.specs.Cells.{ofCell}
 use Rattle.cells.proofs.CellLaws.{cell-small}
 use Rattle.search.specs.Seek.{Place, found, absent}
-use Rattle.thresholds.specs.Thresholds.{Entry, entry, enter, enterNumber, around}
-use Rattle.thresholds.proofs.Outcomes.{Leaves, standing, new, refused, enter-leaves}
+use Rattle.thresholds.specs.Thresholds.{entry, around}
+use Rattle.thresholds.proofs.Numbers.{around-numbers}
 use Rattle.interval.specs.declared.Constant.the-variants.{Number as number, Name, Large}
 use Rattle.lattice.specs.Constants.{Retained, constantAt}
 use Rattle.lattice.specs.Value.{Value}
@@ -200,47 +199,6 @@ module _ {A : Type 0} where
         ]
 
 -- ---- `constant`: the thresholds that it enters have 32 bits, and so have the cells that it writes
-
-all-take : {A : Type 0} (P : A → Type 0) (n : ℕ) (l : List A) → All P l → All P (take n l)
-all-take P zero l h = tt
-all-take P (suc n) [] h = tt
-all-take P (suc n) (x ∷ l) h = (h .0, all-take P n l (h .1))
-
-all-drop : {A : Type 0} (P : A → Type 0) (n : ℕ) (l : List A) → All P l → All P (drop n l)
-all-drop P zero l h = h
-all-drop P (suc n) [] h = tt
-all-drop P (suc n) (x ∷ l) h = all-drop P n l (h .1)
-
-all-inserted : (P : ℤ → Type 0) (l : List ℤ) (at count : ℕ) (v : ℤ) → All P l → P v → All P (inserted l at count v)
-unfolding inserted
-all-inserted P l at count v h p = all-sets P l at (v ∷ take (count - at) (drop at l)) h (p, all-take P (count - at) (drop at l) (all-drop P at l h))
-
--- whichever way it ends
-abbrev Numbers : Run Stop Entry (Unit {0}) → Type 0
-Numbers x = Ends (λ _ t. All Number (t .table)) (λ _ t. All Number (t .table)) x
-
-enter-numbers : (v : ℤ) → Number v → (s : Entry) → All Number (s .table) → Numbers (enter v s)
-enter-numbers v p s h = go (enter-leaves v s)
-  where
-    go : {x : Run Stop Entry (Unit {0})} → Leaves v s x → Numbers x
-    go (standing c k l) = completes h
-    go (new {low = low} c k l) = completes (all-inserted Number (s .table) low (s .count) v h p)
-    go (refused c) = stops h
-
-number-numbers : (v : ℤ) (s : Entry) → All Number (s .table) → Numbers (enterNumber v s)
-unfolding enterNumber
-number-numbers v s h = go (number? v) refl
-  where
-    go : (b : Bool) → number? v ≡ b → Numbers (cond b (enter v) (pure tt) s)
-    go true e = enter-numbers v (number-yes v e) s h
-    go false e = ends-pure tt s h
-
-pub around-numbers : (v : ℤ) → Number v → (s : Entry) → All Number (s .table) → Numbers (around v s)
-unfolding around
-around-numbers v p s h =
-    ends-then (enterNumber (v -ℤ pos 1)) (enter v >> enterNumber (v +ℤ pos 1)) s (number-numbers (v -ℤ pos 1) s h)
-    (λ _ t g. ends-then (enter v) (enterNumber (v +ℤ pos 1)) t (enter-numbers v p t g) (λ _ u f. number-numbers (v +ℤ pos 1) u f) (λ _ u f. f))
-    (λ _ t g. g)
 
 classify-numbers : (k : Key) → TypedKey k → (t : Marks) → All Number (t .table) → Ends (λ _ u. All Number (u .table)) (λ _ u. All Number (u .table)) (classify k t)
 classify-numbers (keys.number v) p t h =

@@ -9,13 +9,11 @@ use mathlib.Core.List.{List, [], _∷_, _++_, map, map-map, List·Memᴰ, List·
 use mathlib.Core.Option.{Option, some, none}
 use lib.Dec.{leb, ltb, eqb}
 use lib.IntN.{ℤ, pos, _+ℤ_, _-ℤ_}
-use lib.ListN.{length, take, drop}
+use lib.ListN.{length}
 use lib.Signed.{leZ}
-use Rattle.integers.specs.Order.{Number, number?, Between}
-use Rattle.integers.specs.Lists.{All, inserted}
+use Rattle.integers.specs.Order.{Number, Between}
+use Rattle.integers.specs.Lists.{All}
 use Rattle.integers.proofs.Tests.{by-cond}
-use Rattle.integers.proofs.OrderLaws.{number-yes}
-use Rattle.integers.proofs.Stores.{all-sets}
 use Rattle.limits.specs.declared.Stop.{Stop}
 use Rattle.limits.specs.declared.Refusal.the-variants.{Limit}
 use Rattle.limits.specs.Refusal.{Told, told}
@@ -45,9 +43,8 @@ use Rattle.store.specs.Store.{withBudget, withThresholds}
 use Rattle.store.specs.Calls.{open?, charged, Marks, marks, entering, firstOf, arityOf, contextCall, workCall, argumentCall, predicateCall}
 use Rattle.store.specs.Calls as store
 use Rattle.store.proofs.Frame.{spends-work, pays}
-use Rattle.thresholds.specs.Thresholds.{Entry, entry, enter, enterNumber, around}
-use Rattle.thresholds.proofs.Outcomes.{enter-leaves}
-use Rattle.thresholds.proofs.Outcomes as outcomes
+use Rattle.thresholds.specs.Thresholds.{entry, around}
+use Rattle.thresholds.proofs.Numbers.{around-numbers}
 use Rattle.rules.specs.declared.Rule.{Rule}
 use Rattle.rules.specs.Rule.{bindingsOf, guardsOf}
 use Rattle.rules.specs.Read.{bindingsAt, guardsAt, headsAt}
@@ -345,52 +342,11 @@ module _ (constants : (p : Accepted) (t : Tables) → Tied p t → Constants (ke
 
 -- ---- the thresholds of an interval's ends have 32 bits
 
-all-taken : {A : Type 0} (P : A → Type 0) (n : ℕ) (l : List A) → All P l → All P (take n l)
-all-taken P zero l h = tt
-all-taken P (suc n) [] h = tt
-all-taken P (suc n) (x ∷ l) h = (h .0, all-taken P n l (h .1))
-
-all-dropped : {A : Type 0} (P : A → Type 0) (n : ℕ) (l : List A) → All P l → All P (drop n l)
-all-dropped P zero l h = h
-all-dropped P (suc n) [] h = tt
-all-dropped P (suc n) (x ∷ l) h = all-dropped P n l (h .1)
-
-numbers-inserted : (l : List ℤ) (at count : ℕ) (v : ℤ) → All Number l → Number v → All Number (inserted l at count v)
-unfolding inserted
-numbers-inserted l at count v h p = all-sets Number l at (v ∷ take (count - at) (drop at l)) h (p, all-taken Number (count - at) (drop at l) (all-dropped Number at l h))
-
--- whichever way they end
-abbrev Numbered : {E : Type 0} → Run E Entry (Unit {0}) → Type 0
-Numbered x = Ends (λ _ t. All Number (t .table)) (λ _ t. All Number (t .table)) x
-
-enter-numbered : (v : ℤ) → Number v → (s : Entry) → All Number (s .table) → Numbered (enter v s)
-enter-numbered v p s h = go (enter-leaves v s)
-  where
-    go : {x : Run Stop Entry (Unit {0})} → outcomes.Leaves v s x → Numbered x
-    go (outcomes.standing c k l) = completes h
-    go (outcomes.new {low = low} c k l) = completes (numbers-inserted (s .table) low (s .count) v h p)
-    go (outcomes.refused c) = stops h
-
-number-numbered : (v : ℤ) (s : Entry) → All Number (s .table) → Numbered (enterNumber v s)
-unfolding enterNumber
-number-numbered v s h = go (number? v) refl
-  where
-    go : (b : Bool) → number? v ≡ b → Numbered (cond b (enter v) (pure tt) s)
-    go true e = enter-numbered v (number-yes v e) s h
-    go false e = ends-pure tt s h
-
-around-numbered : (v : ℤ) → Number v → (s : Entry) → All Number (s .table) → Numbered (around v s)
-unfolding around
-around-numbered v p s h =
-    ends-then (enterNumber (v -ℤ pos 1)) (enter v >> enterNumber (v +ℤ pos 1)) s (number-numbered (v -ℤ pos 1) s h)
-    (λ _ t k. ends-then (enter v) (enterNumber (v +ℤ pos 1)) t (enter-numbered v p t k) (λ _ u l. number-numbered (v +ℤ pos 1) u l) (λ _ u l. l))
-    (λ _ t k. k)
-
 entering-numbered : (v : ℤ) → Number v → (t : Marks) → All Number (t .table) → Ends (λ _ u. All Number (u .table)) (λ _ u. All Number (u .table)) (entering (around v) t)
 entering-numbered v p t h =
     ends-through (λ u. u) (λ _ u. u) (λ _ u. u) (λ e. told (Limit e)) {P = λ _ u. All Number (u .table)} {Q = λ _ u. All Number (u .table)} _ t
     (ends-through (λ u. entry (u .header .budget) (u .header .counts .thresholds) (u .table)) (λ u e. marks (withThresholds (e .count) (withBudget (e .budget) (u .header))) (e .table))
-    (λ u e. marks (withThresholds (e .count) (withBudget (e .budget) (u .header))) (e .table)) (λ e. e) (around v) t (around-numbered v p _ h) (λ _ e k. k) (λ _ e k. k))
+    (λ u e. marks (withThresholds (e .count) (withBudget (e .budget) (u .header))) (e .table)) (λ e. e) (around v) t (around-numbers v p _ h) (λ _ e k. k) (λ _ e k. k))
     (λ _ u k. k)
     (λ _ u k. k)
 

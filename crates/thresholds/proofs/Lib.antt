@@ -1,3 +1,4 @@
 pub mod CodeLaws
 pub mod Outcomes
 pub mod Sorted
+pub mod Numbers

@@ -24,6 +24,7 @@ use Rattle.interval.specs.declared.Interval.the-variants.{Bottom, Bounded, Unbo
 use Rattle.interval.specs.declared.Endpoints.{Endpoints}
 use Rattle.interval.specs.declared.Endpoints.the-variants.{Nothing, Between}
 use Rattle.interval.specs.Interval.{cousot, endpointsOf}
+use Rattle.interval.specs.Proper.{Proper}
 use Rattle.interval.specs.Cousot.{_∋_}
 use Rattle.widening.specs.declared.Growth.{Growth}
 use Rattle.widening.specs.Widening.{growth, Side, side, nearest, below, above, grow, widenLow, widenHigh, Wide, wide, withEnds, widenEnds, widen}
@@ -312,12 +313,6 @@ module _ (thresholds : List ℤ) (previous next : Interval) (g : Growth) where
   widen-contains = weaken (λ w h. have refl h) ways
 
 -- ---- and its ends are numbers of 32 bits that ascend, if those of the new interval are and the thresholds are numbers
-
--- `Proper` of rows, which stands above this crate, clause by clause: the two are one by computation
-abbrev pub Proper : Interval → Type 0
-Proper Bottom = Unit {0}
-Proper (Bounded low high) = Number low × (Number high × Le low high)
-Proper Unbounded = Unit {0}
 
 module _ (thresholds : List ℤ) (previous next : Interval) (g : Growth) where
   proper : All Number thresholds → Proper next → {p n : Endpoints} {w : Wide} → endpointsOf next ≡ n → Ways thresholds next g p n w → Proper (w .interval)
