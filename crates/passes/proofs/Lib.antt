@@ -5,3 +5,4 @@ pub mod Growing
 pub mod Renewed
 pub mod Passing
 pub mod Ascending
+pub mod Steady

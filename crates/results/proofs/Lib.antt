@@ -1,3 +1,4 @@
 pub mod CodeLaws
 pub mod Limits
 pub mod Ended
+pub mod Steady
