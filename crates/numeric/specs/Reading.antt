@@ -1,12 +1,11 @@
 -- Readings of a store whose run has ended. 01: "Reading gives an argument's bound, list, reason and recorded contexts, and the bound of a
 -- rule's slot before and after guards." A reading changes nothing.
 use Prim.Native.Nat.{ℕ, zero, suc, _+_, _*_}
-use mathlib.Core.Bool.{Bool, cond}
+use mathlib.Core.Bool.{Bool, cond, _&&_}
 use mathlib.Core.List.{List, [], _∷_, _++_}
 use mathlib.Core.Option.{Option, some, none}
 use lib.Dec.{eqb, ltb}
 use lib.ListN.{length, getD}
-use Rattle.limits.specs.declared.Stop.{Stop}
 use Rattle.limits.specs.declared.Refusal.the-variants.{Closed, Shape, Missing, MissingSlot, Limit}
 use Rattle.limits.specs.Refusal.{Told, told}
 use Rattle.interval.specs.declared.Bound.{Bound}
@@ -68,7 +67,7 @@ boundAt cells at = record { integrality = integralityOf (getD cells at 0); inter
 -- before guards, or after them
 unfoldable pub slotReading : Store → List ℕ → List ℕ → ℕ → ℕ → Bool → Reading Bound
 slotReading s rules slots r k after =
-    reading (cond (eqb (length rules) (rule.row * 256)) (eqb (length slots) 32768) (eqb 0 1)) s
+    reading (eqb (length rules) (rule.row * 256) && eqb (length slots) 32768) s
     (cond (ltb r (s .counts .rules)) (cond (ltb k (slotsAt rules r)) (given (boundAt slots (place r k after))) (refused (told MissingSlot))) (refused (told Missing)))
 
 -- ---- constants
@@ -79,7 +78,7 @@ retainedKey names constants id = cond (eqb (kindAt constants id) 1) (some (keyAt
 
 unfoldable pub constantReading : Store → List ℕ → List ℕ → ℕ → Reading (Option Key)
 constantReading s names constants id =
-    reading (cond (eqb (length names) 65536) (eqb (length constants) 2048) (eqb 0 1)) s (there (ltb id (s .counts .constants)) (retainedKey names constants id))
+    reading (eqb (length names) 65536 && eqb (length constants) 2048) s (there (ltb id (s .counts .constants)) (retainedKey names constants id))
 
 -- ---- how the run has ended
 
