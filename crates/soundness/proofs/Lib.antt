@@ -17,3 +17,5 @@ pub mod TiedRows
 pub mod ClosedCalls
 pub mod Phases
 pub mod Theorem
+pub mod HaltingRules
+pub mod Halting
