@@ -37,13 +37,12 @@ same-width true b = refl
 same-width false b = refl
 
 stepped-alike : (k : ℕ) (old : Value) (s t : Steps) → shown s ≡ shown t → (x y : Run Stop Meter Grown) → Agree x y → Alike shown (stepped k old s x) (stepped k old t y)
-stepped-alike k old s t e (going a m) (going b n) h =
-    (
-      ap (λ (g : Grown). g .changed) h,
-      ap (λ (w : ℕ). (w, (put (s .next) k (a .value), putGrowth (s .growth) k (a .growth)))) (same-width (loses (old .values) (a .value .values)) _)
+stepped-alike k old s t e (going a m) (going b n) h = (
+  ap (λ (g : Grown). g .changed) h,
+  ap (λ (w : ℕ). (w, (put (s .next) k (a .value), putGrowth (s .growth) k (a .growth)))) (same-width (loses (old .values) (a .value .values)) _)
       ∙ ((λ j. (e j .0, (put (e j .1 .0) k (h j .value), putGrowth (e j .1 .1) k (h j .growth))))
       ∙ ap (λ (w : ℕ). (w, (put (t .next) k (b .value), putGrowth (t .growth) k (b .growth)))) (sym (same-width (loses (old .values) (b .value .values)) _))),
-    )
+)
 stepped-alike k old s t e (going a m) (stopped x n) h = tt
 stepped-alike k old s t e (stopped x m) y h = tt
 

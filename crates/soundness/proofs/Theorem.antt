@@ -173,7 +173,7 @@ module _ (ties : (c : input.Call) → input.Typed c → (p : Accepted) (t : inpu
         ran z q =
             let wide : length (s .arguments) ≡ row * 256 = eqb-true (length (s .arguments)) (row * 256) (and-left _ (eqb (length (s .slots)) 32768) (and-right (sizes (length (s .tables .nodes)) (length (s .tables .constants)) (length (s .tables .rules)) (length (s .tables .seeds)) (length (s .tables .thresholds))) _ z)) in
             let few : s .tables .header .counts .thresholds ≤ 4094 =
-                leb-true (s .tables .header .counts .thresholds) 4094 (and-right (leb (s .tables .header .counts .rules) 256) _ (and-right (leb (s .tables .header .counts .positions) 256) _ q)) in
+            leb-true (s .tables .header .counts .thresholds) 4094 (and-right (leb (s .tables .header .counts .rules) 256) _ (and-right (leb (s .tables .header .counts .positions) 256) _ q)) in
             ran-sound (ground p (s .tables) tied) (tied .numbers) (omega (arith, tied .reached .sized .thresholds)) (s .arguments) (s .slots) (omega (arith, tied .reached .counted .positions))
 
         go : (x : Run Told engine.Tables (Unit {0})) → Ends (λ _ u. Ran (ground p (s .tables) tied) (forRun s) u) (λ _ u. u ≡ forRun s) x → Stands p (onRun s x .after)
