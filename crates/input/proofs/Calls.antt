@@ -127,7 +127,7 @@ constant-room k t =
     (λ _. stops (inl refl)))
     (λ _. stops (inl refl))
 
-typed-key : (k : Key) → TypedKey k → kept.Typed k
+pub typed-key : (k : Key) → TypedKey k → kept.Typed k
 typed-key (number v) h = h
 typed-key (name s) h = tt
 

@@ -11,6 +11,7 @@ pub mod Round
 pub mod Grounded
 pub mod Settled
 pub mod Ran
+pub mod Widened
 pub mod Ties
 pub mod TiedKeys
 pub mod TiedRows

@@ -18,14 +18,10 @@ use Rattle.seeds.proofs.KeptInterval.{seed-interval-kept}
 use Rattle.seeds.proofs.KeptPredicate.{predicate-kept}
 use Rattle.producers.specs.Producer.{ruleCall}
 use Rattle.producers.proofs.Kept.{rule-ends}
-use Rattle.keys.specs.Key.{Key, number, name}
-use Rattle.input.specs.Input.{Tables, Call, context, work, predicate, argument, constant, expression, seedValue, seedInterval, rule, TypedKey, Typed, forPredicate, fromPredicate, withHeader, forConstant, fromConstant, forExpression, fromExpression, forValue, fromValue, forInterval, fromInterval, forRule, fromRule, call, done, id}
+use Rattle.input.specs.Input.{Tables, Call, context, work, predicate, argument, constant, expression, seedValue, seedInterval, rule, Typed, forPredicate, fromPredicate, withHeader, forConstant, fromConstant, forExpression, fromExpression, forValue, fromValue, forInterval, fromInterval, forRule, fromRule, call, done, id}
 use Rattle.input.proofs.Left.{on-ends, number-known}
+use Rattle.input.proofs.Calls.{typed-key}
 use Rattle.input.proofs.Reached.{Reached}
-
-typed-key : (k : Key) → TypedKey k → kept.Typed k
-typed-key (number v) h = h
-typed-key (name s) h = tt
 
 module _ (t : Tables) (r : Reached t) where
   abbrev Same : Tables → Type 0

@@ -71,7 +71,7 @@ use Rattle.soundness.specs.Tied.{bindingOf, guardOf, headOf, Constants}
 use Rattle.soundness.specs.Run.{Accepted, accepted, Seed, one, range, PlainRule, keyOf, treeAt, ruleOf, seedOf, Gives, said}
 use Rattle.soundness.proofs.Lies.{numberOf, Kept, Lies, numeric-lies}
 use Rattle.soundness.proofs.Grounded.{Stored, Inside}
-use Rattle.soundness.proofs.Ties.{RulesTied, SeedsTied, Tied, Still, tied-still}
+use Rattle.soundness.proofs.Ties.{RulesTied, SeedsTied, Tied, Same, with-rows, tied-rows, stored-rows, inside-rows, Still, tied-still}
 
 -- ---- what is left to show of a call: a refusal changes nothing that the ties speak of but thresholds
 
@@ -143,52 +143,6 @@ argument-ties q i p t h =
     (λ _. stops tt))
     (λ _. stops tt))
     (λ _ s e r. tied-still (header-still e) r (h .numbers) h) (λ _ s _. h .numbers))
-
--- ---- where constants and expressions stay, and seeds or rules are added
-
-record Same (t u : Tables) : Type 0 where
-  names : u .names ≡ t .names
-  constants : u .constants ≡ t .constants
-  nodes : u .nodes ≡ t .nodes
-  constant-count : u .header .counts .constants ≡ t .header .counts .constants
-  expression-count : u .header .counts .expressions ≡ t .header .counts .expressions
-
--- what has been said of ids, with other seeds and rules
-abbrev with-rows : Accepted → List Seed → List PlainRule → Accepted
-with-rows p seeds rules = accepted (p .keys) (p .trees) seeds rules
-
-module _ {p : Accepted} {t u : Tables} (h : Tied p t) (s : Same t u) (seeds : List Seed) (rules : List PlainRule) where
-  abbrev q : Accepted
-  q = with-rows p seeds rules
-
-  tied-rows : Reached u → All Number (u .thresholds) → RulesTied q u → SeedsTied q u → Tied q u
-  tied-rows r n x y = record {
-    reached = r;
-    numbers = n;
-    keys = record {
-      has = λ i l. h .keys .has i (omega (arith, s .constant-count));
-      inside = λ i k e. let b = h .keys .inside i k e in omega (arith, s .constant-count);
-      kept = λ i k e z. rw (s .names, s .constants) (h .keys .kept i k e (rw (s .constants) at z));
-      large = λ i k e z. h .keys .large i k e (λ w. z (rw (s .constants) w));
-      proper = h .keys .proper;
-      cells = rw (s .constants) (h .keys .cells);
-    };
-    trees = record {
-      has = λ i l. h .trees .has i (omega (arith, s .expression-count));
-      inside = λ i v e. let b = h .trees .inside i v e in omega (arith, s .expression-count);
-      is = λ i v e. rw (s .nodes) (h .trees .is i v e);
-    };
-    rules = x;
-    seeds = y;
-  }
-
-  -- a rule whose row stays
-  stored-rows : {r : PlainRule} → u .rules ≡ t .rules → u .header .counts .rules ≡ t .header .counts .rules → Stored p t r → Stored q u r
-  stored-rows e c z = record { id = z .id; below = omega (arith, z .below, c); bindings = rw e (z .bindings); guards = rw e (z .guards); heads = rw e (z .heads) }
-
-  -- a key in a row that stays
-  inside-rows : {a : ℕ} {k : Key} → t .header .counts .positions ≤ u .header .counts .positions → valueAt (u .seeds) a ≡ valueAt (t .seeds) a → Inside p t (t .seeds) a k → Inside q u (u .seeds) a k
-  inside-rows l e z = record { below = omega (arith, z .below); proper = z .proper; lies = rw (s .constants, e) (z .lies) }
 
 -- ---- `predicate`: the older arguments keep their seeds
 

@@ -1,20 +1,21 @@
 -- How the tables of a store stand to what its accepted calls have said, call by call: the keys, the trees, the rules and the seeds.
-use Prim.Native.Nat.{ℕ, _<_, _^_}
+use Prim.Native.Nat.{ℕ, _≤_, _<_, _^_}
 use native.Mathlib.Omega.{arith}
-use mathlib.Core.Path.{_≡_, sym, subst}
+use mathlib.Core.Path.{_≡_}
 use mathlib.Core.List.{List, List·Memᴰ}
 use mathlib.Core.Option.{Option, some}
 use lib.IntN.{ℤ}
 use Rattle.integers.specs.Order.{Number}
 use Rattle.integers.specs.Lists.{All}
 use Rattle.lattice.specs.Constants.{Retained}
+use Rattle.rows.specs.Row.{valueAt}
 use Rattle.keys.specs.Key.{Key, name, keyAt}
 use Rattle.nodes.specs.Node.{expressionAt}
 use Rattle.input.specs.Input.{Tables}
 use Rattle.input.proofs.Reached.{Reached}
 use Rattle.soundness.specs.Plain.{Tree, Proper}
 use Rattle.soundness.specs.Tied.{treeOf}
-use Rattle.soundness.specs.Run.{Accepted, PlainRule, first, keyOf, treeAt, Seeded}
+use Rattle.soundness.specs.Run.{Accepted, PlainRule, Seed, accepted, first, keyOf, treeAt, Seeded}
 use Rattle.soundness.proofs.Grounded.{Stored, Inside}
 
 -- every constant has a key: a retained one reads as its key, and one that is not is a name
@@ -47,6 +48,52 @@ pub record Tied (p : Accepted) (t : Tables) : Type 0 where
   pub rules : RulesTied p t
   pub seeds : SeedsTied p t
 
+-- ---- where constants and expressions stay, and seeds or rules are added
+
+pub record Same (t u : Tables) : Type 0 where
+  pub names : u .names ≡ t .names
+  pub constants : u .constants ≡ t .constants
+  pub nodes : u .nodes ≡ t .nodes
+  pub constant-count : u .header .counts .constants ≡ t .header .counts .constants
+  pub expression-count : u .header .counts .expressions ≡ t .header .counts .expressions
+
+-- what has been said of ids, with other seeds and rules
+abbrev pub with-rows : Accepted → List Seed → List PlainRule → Accepted
+with-rows p seeds rules = accepted (p .keys) (p .trees) seeds rules
+
+module _ {p : Accepted} {t u : Tables} (h : Tied p t) (s : Same t u) (seeds : List Seed) (rules : List PlainRule) where
+  abbrev q : Accepted
+  q = with-rows p seeds rules
+
+  pub tied-rows : Reached u → All Number (u .thresholds) → RulesTied q u → SeedsTied q u → Tied q u
+  tied-rows r n x y = record {
+    reached = r;
+    numbers = n;
+    keys = record {
+      has = λ i l. h .keys .has i (omega (arith, s .constant-count));
+      inside = λ i k e. let b = h .keys .inside i k e in omega (arith, s .constant-count);
+      kept = λ i k e z. rw (s .names, s .constants) (h .keys .kept i k e (rw (s .constants) at z));
+      large = λ i k e z. h .keys .large i k e (λ w. z (rw (s .constants) w));
+      proper = h .keys .proper;
+      cells = rw (s .constants) (h .keys .cells);
+    };
+    trees = record {
+      has = λ i l. h .trees .has i (omega (arith, s .expression-count));
+      inside = λ i v e. let b = h .trees .inside i v e in omega (arith, s .expression-count);
+      is = λ i v e. rw (s .nodes) (h .trees .is i v e);
+    };
+    rules = x;
+    seeds = y;
+  }
+
+  -- a rule whose row stays
+  pub stored-rows : {r : PlainRule} → u .rules ≡ t .rules → u .header .counts .rules ≡ t .header .counts .rules → Stored p t r → Stored q u r
+  stored-rows e c z = record { id = z .id; below = omega (arith, z .below, c); bindings = rw e (z .bindings); guards = rw e (z .guards); heads = rw e (z .heads) }
+
+  -- a key in a row that stays
+  pub inside-rows : {a : ℕ} {k : Key} → t .header .counts .positions ≤ u .header .counts .positions → valueAt (u .seeds) a ≡ valueAt (t .seeds) a → Inside p t (t .seeds) a k → Inside q u (u .seeds) a k
+  inside-rows l e z = record { below = omega (arith, z .below); proper = z .proper; lies = rw (s .constants, e) (z .lies) }
+
 -- ---- where no table changes that they speak of
 
 pub record Still (t u : Tables) : Type 0 where
@@ -60,36 +107,13 @@ pub record Still (t u : Tables) : Type 0 where
   pub rule-count : u .header .counts .rules ≡ t .header .counts .rules
   pub position-count : u .header .counts .positions ≡ t .header .counts .positions
 
-module _ {p : Accepted} {t u : Tables} (s : Still t u) where
-  pub inside-still : (values : List ℕ) (a : ℕ) (k : Key) → Inside p t values a k → Inside p u values a k
-  inside-still values a k i = record { below = omega (arith, i .below, s .position-count); proper = i .proper; lies = rw (s .constants) (i .lies) }
-
-  pub stored-still : (r : PlainRule) → Stored p t r → Stored p u r
-  stored-still r h = record {
-    id = h .id;
-    below = omega (arith, h .below, s .rule-count);
-    bindings = rw (s .rules) (h .bindings);
-    guards = rw (s .rules) (h .guards);
-    heads = rw (s .rules) (h .heads);
-  }
-
-  pub tied-still : Reached u → All Number (u .thresholds) → Tied p t → Tied p u
-  tied-still r n h = record {
-    reached = r;
-    numbers = n;
-    keys = record {
-      has = λ i l. h .keys .has i (omega (arith, s .constant-count));
-      inside = λ i k e. let b = h .keys .inside i k e in omega (arith, s .constant-count);
-      kept = λ i k e q. rw (s .names, s .constants) (h .keys .kept i k e (rw (s .constants) at q));
-      large = λ i k e q. h .keys .large i k e (λ z. q (rw (s .constants) z));
-      proper = h .keys .proper;
-      cells = rw (s .constants) (h .keys .cells);
-    };
-    trees = record {
-      has = λ i l. h .trees .has i (omega (arith, s .expression-count));
-      inside = λ i v e. let b = h .trees .inside i v e in omega (arith, s .expression-count);
-      is = λ i v e. rw (s .nodes) (h .trees .is i v e);
-    };
-    rules = record { at = λ q m. stored-still q (h .rules .at q m) };
-    seeds = record { at = λ a k x. subst (λ (l : List ℕ). Inside p u l a k) (sym (s .seeds)) (inside-still (t .seeds) a k (h .seeds .at a k x)) };
-  }
+pub tied-still : {p : Accepted} {t u : Tables} → Still t u → Reached u → All Number (u .thresholds) → Tied p t → Tied p u
+tied-still {p} {t} {u} s r n h =
+    tied-rows h same (p .seeds) (p .rules) r n (record { at = λ q m. stored-rows h same (p .seeds) (p .rules) (s .rules) (s .rule-count) (h .rules .at q m) })
+    (record {
+      at = λ a k x.
+          inside-rows h same (p .seeds) (p .rules) (omega (arith, s .position-count)) (rw (s .seeds)) (h .seeds .at a k (record { seed = x .seed; among = x .among; gives = x .gives }));
+    })
+  where
+    same : Same t u
+    same = record { names = s .names; constants = s .constants; nodes = s .nodes; constant-count = s .constant-count; expression-count = s .expression-count }
