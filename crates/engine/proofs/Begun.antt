@@ -1,10 +1,10 @@
 -- What a run begins with: both ends of 32 bits are thresholds, and the current values are the seeds. Where it is stopped, live entries are as before.
-use Prim.Native.Nat.{ℕ, zero, suc, _+_, _-_, _*_, _≤_, _<_}
+use Prim.Native.Nat.{ℕ, _+_, _-_, _*_, _≤_, _<_}
 use native.Mathlib.Omega.{arith}
-use mathlib.Core.Path.{_≡_, refl, sym, ap, subst, _∙_}
-use mathlib.Core.List.{List, [], _∷_}
+use mathlib.Core.Path.{_≡_, _∙_}
+use mathlib.Core.List.{List}
 use lib.IntN.{ℤ}
-use lib.ListN.{length, take, drop}
+use lib.ListN.{length}
 use Rattle.integers.specs.Order.{Number, least32, greatest32}
 use Rattle.integers.specs.Lists.{All}
 use Rattle.limits.specs.declared.Stop.{Stop}
@@ -25,7 +25,7 @@ use Rattle.slots.proofs.Live.{Formed, Held, copies-ends}
 use Rattle.limits.proofs.Charging.{charge-ends}
 use Rattle.rounds.proofs.Copied.{Same, copies-same}
 use Rattle.rounds.proofs.Live.{Room}
-use Rattle.engine.specs.Run.{enterEnds, Start, start, copying, charging, clearing, seeded, Beginning, beginning, inEntry, inStart, begin}
+use Rattle.engine.specs.Run.{enterEnds, Start, start, charging, clearing, seeded, Beginning, beginning, inStart, begin}
 
 -- ---- thresholds
 

@@ -1,7 +1,7 @@
 -- A run that completes: its values are one round over values that a pass left unchanged. What follows of it, demand 3 among them, uses nothing else
 -- of how they came about. Without rules the values are those that the run began with.
 use Prim.Native.Nat.{ℕ}
-use mathlib.Core.Path.{_≡_, refl, sym, ap, subst, _∙_}
+use mathlib.Core.Path.{_≡_, refl, ap, subst, _∙_}
 use mathlib.Core.Bool.{Bool, false}
 use mathlib.Core.List.{List}
 use borrow.Author.Tests.{eq-eqb, ne-eqb}

@@ -1,14 +1,13 @@
 -- A run from its current values on: passes until one leaves them closed (U), and one more round over those (X). Live entries are those of the
 -- current values beside e others, whichever way it ends.
-use Prim.Native.Nat.{ℕ, _+_, _≤_, _<_, _^_}
-use mathlib.Core.Path.{_≡_, refl}
-use mathlib.Core.Bool.{Bool, true, false, cond}
+use Prim.Native.Nat.{ℕ, _+_, _<_, _^_}
+use mathlib.Core.Path.{_≡_}
+use mathlib.Core.Bool.{false}
 use mathlib.Core.List.{List}
 use borrow.Author.Tests.{eq-eqb, ne-eqb}
 use lib.IntN.{ℤ}
 use Rattle.integers.specs.Lists.{All}
-use Rattle.limits.specs.declared.Stop.{Stop}
-use Rattle.limits.proofs.Ends.{Ends, ends-as, ends-through, on-then}
+use Rattle.limits.proofs.Ends.{Ends, ends-through, on-then}
 use Rattle.slots.specs.Slots.{total}
 use Rattle.slots.proofs.Live.{Formed}
 use Rattle.rounds.specs.Round.{Given, Course, candidates}

@@ -12,7 +12,7 @@ use Rattle.limits.specs.Budget.{work, released}
 use Rattle.limits.specs.Meter.{meterOf, withMeter}
 use Rattle.thresholds.specs.Thresholds.{Entry, entry, enter}
 use Rattle.store.specs.declared.Context.{Context}
-use Rattle.slots.specs.Slots.{Slots, slots, total, copies}
+use Rattle.slots.specs.Slots.{slots, total, copies}
 use Rattle.widening.specs.Widening.{noGrowth}
 use Rattle.rounds.specs.Round.{Given}
 use Rattle.passes.specs.Pass.{Ascent, ascent, ascend}

@@ -23,7 +23,7 @@ use Rattle.rows.specs.WellFormed.{Proper}
 use Rattle.rows.proofs.RowLaws.{size-is}
 use Rattle.rows.proofs.Good.{Good, join-good}
 use Rattle.widening.specs.declared.Growth.{Growth}
-use Rattle.widening.specs.Widening.{Wide, widen}
+use Rattle.widening.specs.Widening.{widen}
 use Rattle.widening.proofs.Rule.{widen-contains, widen-proper, widen-steady, widen-lives}
 use Rattle.passes.specs.Step.{Grown, grown, within, compared, widenValue, grow}
 

@@ -5,25 +5,25 @@ use native.Mathlib.Omega.{arith}
 use native.Mathlib.Decide.{decLt}
 use native.Mathlib.Nat.{add-zero}
 use native.Mathlib.Numerals.{add-one}
-use mathlib.Core.Path.{_≡_, refl, sym, ap, _∙_}
-use mathlib.Core.Bool.{Bool, true, false, cond, _||_}
+use mathlib.Core.Path.{_≡_, refl, ap}
+use mathlib.Core.Bool.{Bool, true, false, _||_}
 use mathlib.Core.List.{List}
 use lib.IntN.{ℤ}
-use lib.ListN.{length, length-replicate}
+use lib.ListN.{length-replicate}
 use Rattle.limits.specs.declared.Stop.{Stop}
 use Rattle.limits.specs.declared.Budget.{Budget}
 use Rattle.limits.specs.Metered.{Run, going, stopped, Metered}
 use Rattle.limits.specs.Meter.{Meter, meterOf, withMeter}
-use Rattle.limits.specs.Budget.{released, widenedOnce}
+use Rattle.limits.specs.Budget.{released}
 use Rattle.limits.proofs.Monad.{Holds, Ensures}
-use Rattle.limits.proofs.Ends.{Ends, completes, stops, ends-pure, ends-bind, ends-through, ends-as, on-bind}
+use Rattle.limits.proofs.Ends.{Ends, completes, stops, ends-pure, ends-bind, ends-through}
 use Rattle.limits.proofs.Live.{LiveIn, Lives}
 use Rattle.lattice.specs.Value.{Value}
 use Rattle.rows.specs.Row.{row, entriesOf, valueAt, put}
 use Rattle.rows.proofs.Good.{Good}
 use Rattle.rows.proofs.RowLaws.{length-put, put-back, put-other}
 use Rattle.slots.specs.Slots.{total}
-use Rattle.slots.proofs.Live.{Formed, formed-put, total-before}
+use Rattle.slots.proofs.Live.{formed-put, total-before}
 use Rattle.store.specs.declared.Context.{Context}
 use Rattle.seeds.specs.Seed.{loses}
 use Rattle.widening.specs.declared.Growth.{Growth}

@@ -1,9 +1,9 @@
 -- What a pass and an ascent make of the current values, and whether a pass has changed one, is the same from any two budgets of one width, where
 -- both complete: counts, limits and the context in force decide only whether they are stopped.
-use Prim.Native.Nat.{ℕ, zero, suc, _+_, _<_}
+use Prim.Native.Nat.{ℕ, zero, suc, _+_}
 use native.Mathlib.Omega.{arith}
 use mathlib.Core.Path.{_≡_, refl, sym, ap, subst, _∙_}
-use mathlib.Core.Bool.{Bool, true, false, cond, _||_}
+use mathlib.Core.Bool.{Bool, true, false, _||_}
 use mathlib.Core.List.{List}
 use lib.IntN.{ℤ}
 use Rattle.limits.specs.declared.Stop.{Stop}

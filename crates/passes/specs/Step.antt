@@ -1,6 +1,6 @@
 -- One argument of a pass (the inner loop of `run` in engine.rs): the old value is joined with its candidate, and its interval widened.
 use Prim.Native.Nat.{ℕ, zero, suc, _+_}
-use mathlib.Core.Bool.{Bool, false, cond, not, _||_}
+use mathlib.Core.Bool.{Bool, cond, not, _||_}
 use mathlib.Core.List.{List}
 use lib.IntN.{ℤ}
 use Rattle.limits.specs.declared.Stop.{Stop}
@@ -15,7 +15,7 @@ use Rattle.rows.specs.Row.{entriesOf, valueAt, put}
 use Rattle.slots.specs.Slots.{total}
 use Rattle.seeds.specs.Seed.{loses}
 use Rattle.widening.specs.declared.Growth.{Growth}
-use Rattle.widening.specs.Widening.{Wide, widen, growthAt, putGrowth}
+use Rattle.widening.specs.Widening.{widen, growthAt, putGrowth}
 
 -- the new value of an argument, its growth, and whether its bound or its list has changed
 pub record Grown : Type 0 where

@@ -1,7 +1,7 @@
 -- The end of a run: the values are those of one more round, and live entries are those of the values whichever way it ends.
-use Prim.Native.Nat.{ℕ, zero, suc, _+_, _≤_, _<_, _^_}
+use Prim.Native.Nat.{ℕ, zero, suc, _+_, _<_, _^_}
 use native.Mathlib.Omega.{arith}
-use mathlib.Core.Path.{_≡_, refl, _∙_}
+use mathlib.Core.Path.{_≡_, refl}
 use mathlib.Core.Bool.{Bool, true, false}
 use mathlib.Core.List.{List}
 use Rattle.integers.specs.Lists.{All}
@@ -11,7 +11,7 @@ use Rattle.limits.proofs.Ends.{Ends, completes, ends-then, ends-through, ends-a
 use Rattle.interval.specs.declared.Bound.{Bound}
 use Rattle.rows.specs.Row.{valueAt}
 use Rattle.rules.specs.Read.{slotsAt}
-use Rattle.slots.specs.Slots.{slots, total, step}
+use Rattle.slots.specs.Slots.{total}
 use Rattle.slots.proofs.Live.{Formed}
 use Rattle.evaluation.specs.Evaluation.{Input}
 use Rattle.rounds.specs.Round.{Given, Standing, standing, charging, eachRule, Course, course, candidates, moved}
@@ -19,7 +19,7 @@ use Rattle.limits.proofs.Charging.{charge-ends}
 use Rattle.rounds.proofs.Brings.{Brings, brings-pure, brings-then, brings-step, brings-locals, Stands, rules-keep}
 use Rattle.rounds.proofs.Moved.{length-moved, moved-row, moved-formed, moved-total}
 use Rattle.rounds.proofs.Live.{Fit, Legible, local-live, Room}
-use Rattle.results.specs.Result.{putBound, keeping, keep, keepBoth, bound, close, inCourse, taking, lastRound, Ending, ending, inValues, inBounds, closing, last}
+use Rattle.results.specs.Result.{keeping, keep, keepBoth, bound, close, taking, lastRound, Ending, ending, closing, last}
 
 -- ---- the bounds of the rules' slots: a table without entries
 

@@ -1,6 +1,6 @@
 -- What the end of a run makes of the values and of the bounds of the rules' slots is the same from any two budgets, where both complete.
 use Prim.Native.Nat.{ℕ, zero, suc, _+_}
-use mathlib.Core.Path.{_≡_, refl, ap}
+use mathlib.Core.Path.{refl, ap}
 use mathlib.Core.Bool.{Bool, true, false}
 use mathlib.Core.List.{List}
 use Rattle.limits.specs.Metered.{_>>=_}

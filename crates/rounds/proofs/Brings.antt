@@ -3,7 +3,7 @@
 use Prim.Native.Nat.{ℕ, zero, suc, _+_, _*_, _≤_, _<_}
 use native.Mathlib.Omega.{arith}
 use native.Mathlib.Decide.{decLt, ℕ-discrete}
-use mathlib.Core.Path.{_≡_, refl, sym, ap, subst}
+use mathlib.Core.Path.{_≡_, sym, subst}
 use mathlib.Core.List.{List, [], _∷_, List·Memᴰ, List·Memᴰ·head, List·Memᴰ·tail}
 use lib.ListN.{length}
 use Rattle.integers.specs.Lists.{All}
@@ -17,7 +17,7 @@ use Rattle.lattice.specs.Value.{Value}
 use Rattle.rows.specs.Row.{row, entriesOf, valueAt, put}
 use Rattle.rows.specs.WellFormed.{WellFormed}
 use Rattle.rules.specs.Read.{contextAt, slotsAt}
-use Rattle.slots.specs.Slots.{Slots, slots, paying, fewer, total, settled, replace, dropping, step, each}
+use Rattle.slots.specs.Slots.{Slots, slots, fewer, total, settled, replace, dropping, step, each}
 use Rattle.slots.proofs.Live.{total-put, total-part}
 use Rattle.evaluation.specs.Evaluation.{Input}
 use Rattle.rounds.specs.Locals.{Locals, local, without, withLocals}

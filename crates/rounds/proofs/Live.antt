@@ -2,7 +2,7 @@
 use Prim.Native.Nat.{ℕ, zero, suc, _+_, _*_, _≤_, _<_, _^_}
 use native.Mathlib.Omega.{arith}
 use native.Mathlib.Nat.{min-le-right}
-use mathlib.Core.Path.{_≡_, refl, ap, _∙_}
+use mathlib.Core.Path.{_≡_, refl, _∙_}
 use mathlib.Core.List.{List, [], _∷_}
 use mathlib.Core.Option.{none}
 use lib.ListN.{length, getD, drop, replicate, length-replicate}
@@ -10,16 +10,13 @@ use Rattle.integers.specs.Lists.{All}
 use Rattle.integers.proofs.Stores.{all-getD}
 use Rattle.limits.specs.declared.Stop.{Stop}
 use Rattle.limits.specs.declared.Resource.the-variants.{Rounds}
-use Rattle.limits.specs.Metered.{Run, going, stopped, Metered}
+use Rattle.limits.specs.Metered.{Run}
 use Rattle.limits.specs.Meter.{Meter, meterOf, withMeter, work}
 use Rattle.limits.specs.Budget.{released, round}
-use Rattle.limits.proofs.Monad.{Ensures, any-value, weaken}
+use Rattle.limits.proofs.Monad.{any-value, weaken}
 use Rattle.limits.proofs.Ends.{Ends, completes, stops, ends-through, ends-as, on-then}
 use Rattle.limits.proofs.Live.{live-work, live-ends}
-use Rattle.lattice.specs.Value.{Value}
-use Rattle.lattice.specs.Lattice.{join}
-use Rattle.rows.specs.Row.{row, padded, decode, valueAt, put}
-use Rattle.rows.specs.WellFormed.{WellFormed}
+use Rattle.rows.specs.Row.{row, padded, decode, valueAt}
 use Rattle.rows.proofs.RowLaws.{value-formed, row-cell, length-put}
 use Rattle.rows.proofs.Good.{Good, join-good}
 use Rattle.rules.specs.declared.Head.{Head}
@@ -31,7 +28,7 @@ use Rattle.guards.proofs.Live.{GuardIn}
 use Rattle.transfer.specs.Transfer.{Frame, frame, rule}
 use Rattle.transfer.proofs.Live.{Filled, Lent, rule-ends, head-good}
 use Rattle.rounds.specs.Locals.{Locals, locals, fill, blank, localsOf, local}
-use Rattle.rounds.specs.Round.{Given, Standing, standing, inTable, holdingRows, eachRule, joinHead, apply, produce, image, Course, course, candidatesOf, candidates}
+use Rattle.rounds.specs.Round.{Given, Standing, standing, holdingRows, eachRule, joinHead, apply, produce, image, Course, course, candidatesOf, candidates}
 use Rattle.rounds.specs.Round.{blank as table}
 use Rattle.limits.proofs.Charging.{charge-ends}
 use Rattle.rounds.proofs.Brings.{Brings, rowsOf, held, brings-each, brings-locals, Stands, rules-keep}

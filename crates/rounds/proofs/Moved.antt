@@ -1,12 +1,11 @@
 -- The rows of one table in another.
-use Prim.Native.Nat.{ℕ, zero, suc, _+_, _*_, _≤_, _<_}
+use Prim.Native.Nat.{ℕ, zero, suc, _*_, _≤_, _<_}
 use native.Mathlib.Omega.{arith}
 use native.Mathlib.Decide.{decLt}
-use mathlib.Core.Path.{_≡_, refl, ap, _∙_}
+use mathlib.Core.Path.{_≡_, refl, _∙_}
 use mathlib.Core.List.{List}
 use lib.ListN.{length}
-use Rattle.rows.specs.Row.{row, valueAt, put}
-use Rattle.rows.specs.WellFormed.{WellFormed}
+use Rattle.rows.specs.Row.{row, valueAt}
 use Rattle.rows.proofs.RowLaws.{length-put, put-back, put-other}
 use Rattle.slots.specs.Slots.{total}
 use Rattle.slots.proofs.Live.{Formed, formed-put, total-same}

@@ -1,6 +1,6 @@
 -- What a round gives is the same from any two budgets, where both complete.
 use Prim.Native.Nat.{ℕ, zero, suc, _+_}
-use mathlib.Core.Path.{refl, ap}
+use mathlib.Core.Path.{refl}
 use mathlib.Core.List.{List}
 use Rattle.limits.specs.declared.Stop.{Stop}
 use Rattle.limits.specs.Metered.{Run, going, stopped, Metered}
@@ -9,7 +9,6 @@ use Rattle.limits.specs.Budget.{round}
 use Rattle.limits.proofs.Monad.{Agree, Steady, steady-unit}
 use Rattle.limits.proofs.Alike.{Alike, SteadyOn, on-pure, on-bind, on-then, on-through, steady-on}
 use Rattle.lattice.specs.Value.{Value}
-use Rattle.lattice.specs.Lattice.{join}
 use Rattle.lattice.proofs.Steadiness.{join-steady}
 use Rattle.rules.specs.declared.Head.{Head}
 use Rattle.rules.specs.Read.{contextAt, headsAt}

@@ -2,13 +2,11 @@
 -- fires on values that lie in them lies in what the round gives.
 use Prim.Native.Nat.{ℕ, _+_, _*_, _≤_, _<_, _^_}
 use native.Mathlib.Omega.{arith}
-use mathlib.Core.Path.{_≡_, refl, sym, ap, subst, _∙_}
-use mathlib.Core.Logic.{_⊎_, inl, inr, ⊎-elim}
+use mathlib.Core.Path.{_≡_, sym, subst}
 use mathlib.Core.List.{List, [], _∷_, map, List·Memᴰ, List·Memᴰ·head, List·Memᴰ·tail}
 use mathlib.Core.Option.{Option, some, none}
 use lib.ListN.{length}
 use Rattle.integers.specs.Lists.{All}
-use Rattle.limits.specs.declared.Stop.{Stop}
 use Rattle.limits.specs.Metered.{Run, going}
 use Rattle.limits.proofs.Ends.{Ends, completes, stops, ends-as, ends-both}
 use Rattle.rows.specs.Row.{row, valueAt}
@@ -20,17 +18,17 @@ use Rattle.rules.specs.declared.Head.{Head}
 use Rattle.rules.specs.Read.{bindingsAt, guardsAt, headsAt}
 use Rattle.slots.specs.Slots.{Slots, total, copies}
 use Rattle.slots.proofs.Live.{Formed, Held, copies-ends}
-use Rattle.rounds.specs.Round.{Given, given, Standing, eachRule, apply, image}
+use Rattle.rounds.specs.Round.{Given, given, Standing, apply, image}
 use Rattle.rounds.proofs.Brings.{Brings, rowsOf, Stands, rules-keep, rules-hit}
 use Rattle.rounds.proofs.Copied.{Same, copies-same}
 use Rattle.rounds.proofs.Live.{Room, apply-keeps, image-brings, image-live}
 use Rattle.input.specs.Input.{Tables}
 use Rattle.input.proofs.Reached.{Reached}
-use Rattle.soundness.specs.Plain.{Opaque, State, Choice, Choices, into, Proper, PlainBinding, positive, assign, range, aggregate, BindingHolds, AllHold, Fires, HeadsGive}
+use Rattle.soundness.specs.Plain.{Opaque, State, Choice, into, Proper, PlainBinding, positive, assign, range, aggregate, BindingHolds, AllHold, Fires, HeadsGive}
 use Rattle.soundness.specs.Tied.{bindingOf, guardOf, headOf, Constants, Trees}
 use Rattle.soundness.specs.Run.{Accepted, PlainRule, keyOf, treeAt, Seeded, Firing, Produces}
 use Rattle.soundness.proofs.Lies.{Lies}
-use Rattle.soundness.proofs.Worth.{ProperChoice, worth-proper, proper-into}
+use Rattle.soundness.proofs.Worth.{worth-proper, proper-into}
 use Rattle.soundness.proofs.Binding.{Among}
 use Rattle.soundness.proofs.Stored.{Stage, sceneOf, Valued}
 use Rattle.soundness.proofs.Round.{over, stored-fit, Has, apply-has, Hit, hit, apply-gives}

@@ -1,6 +1,5 @@
 -- No call that builds a store changes its phase.
-use Prim.Native.Nat.{ℕ}
-use mathlib.Core.Path.{_≡_, refl, sym, ap, _∙_}
+use mathlib.Core.Path.{_≡_, refl, ap}
 use mathlib.Core.Bool.{_&&_}
 use lib.Dec.{eqb, ltb}
 use lib.ListN.{length}

@@ -1,44 +1,40 @@
 -- A run of a store whose tables hold what the accepted calls have said. Completed: its live entries are those of the lists that it reports, and
 -- whatever the plain run reaches lies in what it reports. Stopped: live entries are those of the seeds, and no result is written.
-use Prim.Native.Nat.{ℕ, zero, suc, _+_, _-_, _*_, _≤_, _<_, _^_}
+use Prim.Native.Nat.{ℕ, zero, suc, _+_, _-_, _*_, _≤_}
 use native.Mathlib.Omega.{arith}
 use native.Mathlib.Decide.{ℕ-discrete}
-use mathlib.Core.Path.{_≡_, refl, sym, ap, subst, _∙_}
-use mathlib.Core.Logic.{_⊎_, inl, inr, ⊎-elim}
-use mathlib.Core.List.{List, [], _∷_, List·Memᴰ}
+use mathlib.Core.Path.{_≡_, refl, ap, _∙_}
+use mathlib.Core.Logic.{_⊎_, ⊎-elim}
+use mathlib.Core.List.{List, [], _∷_}
 use mathlib.Core.Option.{none}
 use lib.IntN.{ℤ}
 use lib.ListN.{length, take, replicate, length-replicate}
-use lib.Seq.{sets}
 use Rattle.integers.specs.Order.{Number}
 use Rattle.integers.specs.Lists.{All}
 use Rattle.integers.proofs.Stores.{all-take}
 use Rattle.limits.specs.declared.Stop.{Stop}
-use Rattle.limits.specs.Metered.{Run, going, stopped}
+use Rattle.limits.specs.Metered.{Run}
 use Rattle.limits.proofs.Ends.{Ends, completes, stops, ends-as}
 use Rattle.rows.specs.Row.{row, entriesOf, valueAt}
 use Rattle.keys.specs.Key.{Key}
-use Rattle.thresholds.specs.Thresholds.{Entry, entry}
+use Rattle.thresholds.specs.Thresholds.{entry}
 use Rattle.store.specs.declared.Context.{Context}
-use Rattle.store.specs.declared.Phase.{Phase}
 use Rattle.store.specs.declared.Phase.the-variants.{Completed, Stopped}
 use Rattle.slots.specs.Slots.{total}
-use Rattle.slots.proofs.Live.{Formed}
 use Rattle.seeds.proofs.Seeded.{entriesIn}
 use Rattle.seeds.proofs.Seeded as seeds
 use Rattle.rounds.specs.Round.{blank, moved}
 use Rattle.rounds.proofs.Moved.{moved-row, moved-total}
 use Rattle.rounds.proofs.Copied.{Same}
 use Rattle.rounds.proofs.Live.{Room, blank-formed}
-use Rattle.engine.specs.Run.{Beginning, beginning, begin, Progress, progress, finish}
+use Rattle.engine.specs.Run.{Beginning, beginning, Progress, progress, finish}
 use Rattle.engine.specs.Call.{Tables, tables, read, concluded, finished, ranOn}
-use Rattle.engine.specs.Call as engine
 use Rattle.engine.proofs.Finished.{Settled, finish-alone, finish-ends}
 use Rattle.engine.proofs.Begun.{Ended, Sown, begin-ends}
 use Rattle.input.specs.Input as input
 use Rattle.soundness.specs.Plain.{Opaque, State}
 use Rattle.soundness.specs.Run.{Accepted, Seeded, Firing, Produces, fired, Reaches}
-use Rattle.soundness.proofs.Round.{over, stored-fit}
+use Rattle.soundness.proofs.Round.{stored-fit}
 use Rattle.soundness.proofs.Grounded.{Inside, Grounded, ends-all, seeds-good}
 use Rattle.soundness.proofs.Settled.{run, Closed, Round, round-ends, pass-sound, reaches-both}
 

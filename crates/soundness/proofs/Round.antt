@@ -1,13 +1,13 @@
 -- One round over a store that calls have reached: whatever the plain run seeds, or puts into an argument by firing a rule on values that lie in
 -- the round's values, lies in what the round gives.
-use Prim.Native.Nat.{ℕ, _+_, _*_, _≤_, _<_, _^_}
+use Prim.Native.Nat.{ℕ, _*_, _<_, _^_}
 use native.Mathlib.Omega.{arith}
 use native.Mathlib.Decide.{ℕ-discrete}
-use mathlib.Core.Path.{_≡_, refl, sym, subst, _∙_}
-use mathlib.Core.Logic.{_⊎_, inl, inr, ⊎-elim}
+use mathlib.Core.Path.{_≡_, refl, sym, subst}
+use mathlib.Core.Logic.{inl, inr}
 use mathlib.Core.List.{List, [], _∷_, map, List·Memᴰ, List·Memᴰ·head, List·Memᴰ·tail}
 use mathlib.Core.Option.{Option, some}
-use lib.ListN.{length, length-replicate}
+use lib.ListN.{length-replicate}
 use Rattle.integers.specs.Lists.{All}
 use Rattle.limits.specs.declared.Stop.{Stop}
 use Rattle.limits.specs.Metered.{Run}
@@ -15,7 +15,6 @@ use Rattle.limits.specs.Meter.{Meter, work}
 use Rattle.limits.proofs.Monad.{Ensures, weaken, both, for-all}
 use Rattle.limits.proofs.Ends.{Ends, completes, stops, ends-as, ends-both, in-some-way, on-then}
 use Rattle.lattice.specs.Value.{Value}
-use Rattle.lattice.specs.Lattice.{join}
 use Rattle.rows.specs.Row.{row, valueAt, put}
 use Rattle.rows.proofs.RowLaws.{length-put, put-back, put-other}
 use Rattle.rows.proofs.Good.{Good, join-good}
@@ -24,21 +23,19 @@ use Rattle.rules.specs.declared.Head.{Head}
 use Rattle.rules.specs.Read.{slotsAt, bindingsAt, guardsAt, headsAt}
 use Rattle.producers.specs.Producer.{Scope, scope}
 use Rattle.producers.proofs.Scoped.{HeadIn}
-use Rattle.slots.specs.Slots.{Slots, total, copies}
-use Rattle.slots.proofs.Live.{Formed, formed-put, Held, copies-ends}
+use Rattle.slots.proofs.Live.{Formed, formed-put}
 use Rattle.evaluation.specs.Evaluation.{Input, input}
 use Rattle.transfer.specs.Transfer.{Frame, frame, rule, head}
 use Rattle.transfer.proofs.Live.{head-good}
 use Rattle.rounds.specs.Locals.{Locals, locals, fill, blank, localsOf, local}
-use Rattle.rounds.specs.Round.{Given, given, Standing, eachRule, joinHead, apply, image}
-use Rattle.rounds.proofs.Brings.{Brings, rowsOf, held, brings-each, brings-hit, brings-locals, Stands, rules-keep, rules-hit}
+use Rattle.rounds.specs.Round.{joinHead, apply}
+use Rattle.rounds.proofs.Brings.{Brings, rowsOf, brings-each, brings-hit, brings-locals}
 use Rattle.rounds.proofs.Joined.{brings-head}
-use Rattle.rounds.proofs.Copied.{Same, copies-same}
-use Rattle.rounds.proofs.Live.{Fit, few-slots, Legible, local-live, Room, head-keeps, apply-keeps, image-brings}
+use Rattle.rounds.proofs.Live.{Fit, Legible, local-live, Room, head-keeps}
 use Rattle.input.specs.Input.{Tables}
 use Rattle.input.proofs.Reached.{Reached}
-use Rattle.soundness.specs.Plain.{Tree, Opaque, Choice, into, Choices, Proper, PlainHead, Fires, worth, HeadsGive}
-use Rattle.soundness.specs.Tied.{bindingOf, guardOf, headOf, Constants, Trees}
+use Rattle.soundness.specs.Plain.{Tree, Opaque, Choice, into, Proper, Fires, worth, HeadsGive}
+use Rattle.soundness.specs.Tied.{bindingOf, guardOf, headOf}
 use Rattle.soundness.proofs.Lies.{Lies, join-lies}
 use Rattle.soundness.proofs.Worth.{ProperChoice, proper-into}
 use Rattle.soundness.proofs.Evaluating.{Sound}

@@ -1,8 +1,7 @@
 -- A run over a store that is grounded: an unchanged pass leaves values that are closed under the plain run's steps, and whatever the plain run
 -- reaches lies in one more round over them.
-use Prim.Native.Nat.{ℕ, _+_, _≤_, _<_, _^_}
-use native.Mathlib.Omega.{arith}
-use mathlib.Core.Path.{_≡_, refl, sym, ap, subst, _∙_}
+use Prim.Native.Nat.{ℕ, _+_}
+use mathlib.Core.Path.{_≡_, refl, subst}
 use mathlib.Core.Logic.{_⊎_, inl, inr, ⊎-elim}
 use mathlib.Core.Bool.{Bool, false}
 use mathlib.Core.List.{List, [], _∷_}
@@ -14,10 +13,8 @@ use Rattle.limits.proofs.Monad.{Ensures, weaken, both, for-all}
 use Rattle.limits.proofs.Ends.{Ends, ends-as}
 use Rattle.lattice.specs.Value.{Value}
 use Rattle.rows.specs.Row.{valueAt}
-use Rattle.rows.proofs.Good.{Good}
 use Rattle.keys.specs.Key.{Key}
 use Rattle.slots.specs.Slots.{total}
-use Rattle.slots.proofs.Live.{Formed}
 use Rattle.widening.specs.declared.Growth.{Growth}
 use Rattle.rounds.specs.Round.{Given, given, Course, candidates}
 use Rattle.rounds.proofs.Live.{Room, candidates-ends}
@@ -31,7 +28,7 @@ use Rattle.soundness.specs.Plain.{Opaque, State, Proper}
 use Rattle.soundness.specs.Run.{Accepted, keyOf, Seeded, Firing, Produces, fired, Reaches}
 use Rattle.soundness.proofs.Lies.{Lies, num, with-proper, to-in, from-in}
 use Rattle.soundness.proofs.Lies as lies
-use Rattle.soundness.proofs.Round.{over, stored-fit}
+use Rattle.soundness.proofs.Round.{over}
 use Rattle.soundness.proofs.Grounded.{Inside, Grounded, Stepped, seeded, produced, fires-on, stepped-on, step-inside, image-sound}
 
 -- ---- one argument of a pass

@@ -1,6 +1,6 @@
 -- Demand 3: `sound`. A list of calls is played from a fresh store; as long as it is open its tables hold what the accepted calls have said, and
 -- from the run on nothing more is said and the results stay.
-use Prim.Native.Nat.{ℕ, _+_, _*_, _≤_, _<_, _^_}
+use Prim.Native.Nat.{ℕ, _*_, _≤_, _<_}
 use native.Mathlib.Omega.{arith}
 use mathlib.Core.Path.{_≡_, refl, sym, ap, subst, _∙_}
 use mathlib.Core.Bool.{Bool, true, false, cond, _&&_}
@@ -8,12 +8,11 @@ use mathlib.Core.List.{List, [], _∷_, List·Memᴰ, List·Memᴰ·head, List·
 use mathlib.Core.Option.{Option, some, none}
 use borrow.Author.Tests.{eqb-true, eq-eqb, leb-true, lt-ltb}
 use lib.Dec.{eqb, leb, ltb}
-use lib.IntN.{ℤ}
 use lib.ListN.{length}
 use Rattle.integers.specs.Lists.{All}
 use Rattle.integers.proofs.Tests.{and-left, and-right}
 use Rattle.limits.specs.declared.Limits.{Limits}
-use Rattle.limits.specs.declared.Refusal.the-variants.{Closed, Shape, Full}
+use Rattle.limits.specs.declared.Refusal.the-variants.{Shape}
 use Rattle.limits.specs.Refusal.{Told, told}
 use Rattle.limits.specs.Metered.{Run, going, stopped}
 use Rattle.limits.proofs.Ends.{Ends, completes, stops, ends-as, ends-test, ends-both}
@@ -36,7 +35,7 @@ use Rattle.numeric.specs.Reading as reading
 use Rattle.numeric.specs.Step.{Call, store, run, argument, contextCount, context, slot, constant, status, Answer, value, State, state, forRun, fromRun, onStore, onRun, onReading, step, Event, event, play, headerOf, fresh}
 use Rattle.numeric.specs.Step as calls
 use Rattle.soundness.specs.Plain.{Opaque}
-use Rattle.soundness.specs.Run.{Accepted, accepted, keyOf, said, noted, heardFrom, heard, Firing, Reaches}
+use Rattle.soundness.specs.Run.{Accepted, accepted, keyOf, said, noted, heardFrom, Firing, Reaches}
 use Rattle.soundness.specs.Claim.{LiesInBound, LiesInList, LiesIn, Typed, Lent, Demand3}
 use Rattle.lattice.proofs.Members.{InBound, Listed}
 use Rattle.soundness.proofs.Lies.{numberOf, Lies, Kept}

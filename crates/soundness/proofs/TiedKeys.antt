@@ -1,5 +1,5 @@
 -- What the tables of a store hold of the accepted calls grounds a run, and the calls of `constant` and `expression` keep it so.
-use Prim.Native.Nat.{ℕ, zero, suc, _+_, _-_, _*_, _≤_, _<_, _^_}
+use Prim.Native.Nat.{ℕ, _+_, _-_, _*_, _≤_, _<_, _^_}
 use native.Mathlib.Omega.{arith}
 use native.Mathlib.Decide.{decLt, ℕ-discrete}
 use mathlib.Core.Path.{_≡_, refl, sym, ap, subst, _∙_}
@@ -9,7 +9,7 @@ use mathlib.Core.List.{List, [], _∷_, _++_, map}
 use mathlib.Core.Option.{Option, some, none}
 use borrow.Author.Tests.{eq-eqb, ne-eqb, leb-true}
 use lib.Dec.{leb, ltb, eqb}
-use lib.IntN.{ℤ, pos, _+ℤ_, _-ℤ_}
+use lib.IntN.{ℤ}
 use lib.ListN.{length}
 use Rattle.integers.specs.Order.{Number}
 use Rattle.integers.specs.Lists.{All}
@@ -19,8 +19,8 @@ use Rattle.limits.specs.declared.Stop.{Stop}
 use Rattle.limits.specs.declared.Budget.{Budget}
 use Rattle.limits.specs.declared.Refusal.the-variants.{Limit, Missing}
 use Rattle.limits.specs.Refusal.{Told, told}
-use Rattle.limits.specs.Metered.{Run, Metered, pure, _>>_}
-use Rattle.limits.proofs.Ends.{Ends, completes, stops, ends-pure, ends-test, ends-as, ends-both, ends-then, ends-through, on-bind, on-then, in-some-way}
+use Rattle.limits.specs.Metered.{Run, Metered, _>>_}
+use Rattle.limits.proofs.Ends.{Ends, completes, stops, ends-pure, ends-test, ends-as, ends-both, ends-through, on-bind, on-then, in-some-way}
 use Rattle.cells.specs.Cells.{ofCell}
 use Rattle.cells.proofs.CellLaws.{cell-small}
 use Rattle.search.specs.Seek.{Place, found, absent}

@@ -1,23 +1,22 @@
 -- The calls that give no id to a constant or an expression keep the ties: `context`, `work`, `argument`, `predicate`, the seeds and `rule`.
-use Prim.Native.Nat.{ℕ, zero, suc, _+_, _-_, _^_, _≤_, _<_}
+use Prim.Native.Nat.{ℕ, _+_, _-_, _^_, _≤_, _<_}
 use native.Mathlib.Omega.{arith}
 use native.Mathlib.Decide.{ℕ-discrete}
 use mathlib.Core.Path.{_≡_, refl, sym, ap, subst, _∙_}
 use mathlib.Core.Logic.{_⊎_, inl, inr, ⊎-elim}
-use mathlib.Core.Bool.{Bool, true, false, cond, _&&_}
+use mathlib.Core.Bool.{_&&_}
 use mathlib.Core.List.{List, [], _∷_, _++_, map, map-map, List·Memᴰ, List·Memᴰ·head, List·Memᴰ·not-nil, List·Memᴰ·append-cases, List·Memᴰ·eq-of-singleton}
 use mathlib.Core.Option.{Option, some, none}
 use lib.Dec.{leb, ltb, eqb}
-use lib.IntN.{ℤ, pos, _+ℤ_, _-ℤ_}
+use lib.IntN.{ℤ}
 use lib.ListN.{length}
 use lib.Signed.{leZ}
 use Rattle.integers.specs.Order.{Number, Between}
 use Rattle.integers.specs.Lists.{All}
 use Rattle.integers.proofs.Tests.{by-cond}
-use Rattle.limits.specs.declared.Stop.{Stop}
 use Rattle.limits.specs.declared.Refusal.the-variants.{Limit}
 use Rattle.limits.specs.Refusal.{Told, told}
-use Rattle.limits.specs.Metered.{Run, Metered, pure, _>>_}
+use Rattle.limits.specs.Metered.{Metered}
 use Rattle.limits.specs.Budget.{work}
 use Rattle.limits.proofs.Ends.{Ends, completes, stops, ends-as, ends-both, ends-pure, ends-test, ends-then, ends-through, in-some-way}
 use Rattle.interval.specs.declared.Bound.{Bound}
@@ -71,7 +70,7 @@ use Rattle.soundness.specs.Tied.{bindingOf, guardOf, headOf, Constants}
 use Rattle.soundness.specs.Run.{Accepted, accepted, Seed, one, range, PlainRule, keyOf, treeAt, ruleOf, seedOf, Gives, said}
 use Rattle.soundness.proofs.Lies.{numberOf, Kept, Lies, numeric-lies}
 use Rattle.soundness.proofs.Grounded.{Stored, Inside}
-use Rattle.soundness.proofs.Ties.{RulesTied, SeedsTied, Tied, Same, with-rows, tied-rows, stored-rows, inside-rows, Still, tied-still}
+use Rattle.soundness.proofs.Ties.{Tied, Same, with-rows, tied-rows, stored-rows, inside-rows, Still, tied-still}
 
 -- ---- what is left to show of a call: a refusal changes nothing that the ties speak of but thresholds
 

@@ -3,8 +3,7 @@ use Prim.Native.Nat.{ℕ, _≤_, _<_, _^_}
 use native.Mathlib.Omega.{arith}
 use mathlib.Core.Path.{_≡_}
 use mathlib.Core.List.{List, List·Memᴰ}
-use mathlib.Core.Option.{Option, some}
-use lib.IntN.{ℤ}
+use mathlib.Core.Option.{some}
 use Rattle.integers.specs.Order.{Number}
 use Rattle.integers.specs.Lists.{All}
 use Rattle.lattice.specs.Constants.{Retained}

@@ -2,7 +2,7 @@
 -- each widening is by 01's rule, and a side that has grown twice moves to the nearest threshold at or beyond it: there is always one.
 use Prim.Native.Nat.{ℕ, zero, suc, _+_, _*_, _≤_, _<_}
 use native.Mathlib.Omega.{arith}
-use mathlib.Core.Path.{_≡_, refl, subst, _∙_}
+use mathlib.Core.Path.{refl, subst, _∙_}
 use mathlib.Core.List.{List, [], _∷_, List·Memᴰ, List·Memᴰ·head, List·Memᴰ·tail}
 use mathlib.Core.Option.{none}
 use lib.IntN.{ℤ, pos}
@@ -22,7 +22,7 @@ use Rattle.widening.specs.Rule.{Rising, Which, Grows, Nearest, Placed, ByRule}
 use Rattle.widening.proofs.Rule.{rising-first, widen-by-rule, moves-nearest}
 use Rattle.rounds.specs.Round.{blank}
 use Rattle.rounds.proofs.Live.{Room, blank-formed}
-use Rattle.engine.specs.Run.{Beginning, beginning, begin}
+use Rattle.engine.specs.Run.{beginning, begin}
 use Rattle.engine.proofs.Begun.{Ended, begin-ends}
 use Rattle.input.specs.Input as input
 use Rattle.soundness.specs.Run.{Accepted}

@@ -4,7 +4,6 @@ use Prim.Native.Nat.{ℕ, _*_, _<_, _^_}
 use mathlib.Core.Path.{_≡_}
 use mathlib.Core.List.{List, List·Memᴰ}
 use mathlib.Core.Option.{Option, some, none}
-use lib.IntN.{ℤ}
 use lib.ListN.{length}
 use Rattle.integers.specs.Order.{Number}
 use Rattle.integers.specs.Lists.{All}

@@ -38,7 +38,7 @@ use Rattle.widening.specs.declared.Sided.the-variants.{At}
 use Rattle.widening.specs.declared.Sided.the-variants as sided
 use Rattle.widening.specs.declared.Widened.the-variants.{Into}
 use Rattle.widening.specs.declared.Widened.the-variants as widened
-use Rattle.widening.specs.Widening.{growth, side, nearest, below, above, grow, widenLow, widenHigh, withEnds, widen, growthAt, putGrowth, noGrowth}
+use Rattle.widening.specs.Widening.{growth, nearest, below, above, grow, widenLow, widenHigh, withEnds, widen, growthAt, putGrowth, noGrowth}
 use Rattle.widening.specs.Answers.{movedTo, sidedAt, Moves, Sides, Widens}
 
 -- ---- growth in its cells

@@ -1,6 +1,6 @@
 -- `widen` of engine.rs with its charges, and how often the sides of each argument have grown. That this is 01's rule is proofs/Rule.antt.
 use Prim.Native.Nat.{ℕ, zero, suc, _+_, _*_}
-use mathlib.Core.Bool.{Bool, true, false, cond}
+use mathlib.Core.Bool.{Bool, cond}
 use mathlib.Core.List.{List, [], _∷_, reverse}
 use lib.Dec.{ltb}
 use lib.IntN.{ℤ}
