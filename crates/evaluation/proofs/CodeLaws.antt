@@ -8,6 +8,7 @@ use mathlib.Core.List.{List}
 use borrow.Author.Tests.{eq-eqb, ne-eqb}
 use lib.Dec.{eqb}
 use lib.IntN.{pos}
+use Rattle.integers.specs.Lists.{from}
 use Rattle.limits.specs.declared.Resource.the-variants.{Work}
 use Rattle.limits.specs.declared.Stop.{Stop}
 use Rattle.limits.specs.declared.Charged.{Charged}
@@ -41,7 +42,7 @@ use Rattle.nodes.specs.declared.Expression.the-variants.{Constant as Fixed, Slo
 use Rattle.nodes.specs.Node.{expressionAt}
 use Rattle.nodes.proofs.NodeLaws.{Below}
 use Rattle.nodes.proofs.Descent.{below, descends}
-use Rattle.refinements.specs.Refinement.{Refinement, restrict}
+use Rattle.refinements.specs.Refinement.{Refinement, refinementsOf, restrict}
 use Rattle.lattice.specs.declared.Reason.the-variants.{Some}
 use Rattle.lattice.specs.declared.Abstract.{Abstract}
 use Rattle.evaluation.specs.declared.Combined.{Combined}
@@ -265,6 +266,12 @@ module _ (f : Value → Metered Stop Meter Value) (node : Made) (mw me : ℕ) wh
   pub finish-done : {y : Run Stop Meter Value} → node .outcome ≡ Done → y ≡ f (valueOf (node .value)) (meter (node .work) mw (node .entries) me) → y ≡ after (made node mw me) f
   unfolding after
   finish-done p h = rw p h
+
+-- where nothing is known
+pub finish-free : (constants cells : List ℕ) (id : ℕ) {n : ℕ} → n ≡ 0 → (x : Run Stop Meter Value) → x ≡ after x (restrict constants (refinementsOf cells n) id)
+unfolding after restrict pure from
+finish-free constants cells id e (going v m) = rw e refl
+finish-free constants cells id e (stopped s m) = refl
 
 bound-is : (m : Metered Stop Meter Value) (f : Value → Metered Stop Meter Value) (s : Meter) {x : Run Stop Meter Value} → x ≡ m s → after x f ≡ (m >>= f) s
 unfolding _>>=_

@@ -247,6 +247,10 @@ fn finish(
 ) -> Made
     ensures { λ r. ⌜ made r «max_work» «max_entries» ≡ after (made node «max_work» «max_entries») (restrict (now (constants .entry)) (refinementsOf (now (refinements .entry)) count) id) ⌝ }
 {
+    // Most expressions have none, and a value is then not handed on.
+    if count == 0 {
+        return node;
+    }
     let outcome = node.outcome;
     match outcome {
         Outcome::Stopped(_) => node,

@@ -40,9 +40,9 @@ pub enum Reason {
 
 // A bound, and where `kept` the list of the first `len` ids. Ids behind the list mean nothing.
 pub struct Abstract {
-    pub bound: Bound,
     pub ids: [u16; 16],
     pub len: usize,
+    pub bound: Bound,
     pub kept: bool,
     pub reason: Reason,
 }

@@ -105,6 +105,20 @@ module _ (cells : List ℕ) (i at : ℕ) (start : at ≡ min (row * i) (length c
       (rw (e₄, cell 4 (omega arith), e₅, cell 5 (omega arith), e₆, cell 6 (omega arith))
       (rw (kept-list (eqb (getD (padded row (drop at cells)) 4 0) 0) (getD (padded row (drop at cells)) 5 0) (idsOf (padded row (drop at cells))))))
 
+  -- without a list the ids mean nothing
+  pub row-bare : (ids : List ℕ) {a₀ a₁ a₂ a₃ a₄ a₅ a₆ : ℕ} {g : Integrality} {x : Interval} {w : Reason} →
+      a₀ ≡ getD cells at 0 → a₁ ≡ getD cells (at + 1) 0 → a₂ ≡ getD cells (at + 2) 0 → a₃ ≡ getD cells (at + 3) 0 →
+      a₄ ≡ getD cells (at + 4) 0 → a₅ ≡ getD cells (at + 5) 0 → a₆ ≡ getD cells (at + 6) 0 →
+      g ≡ integralityOf a₀ → x ≡ intervalOf a₁ (ofCell a₂) (ofCell a₃) → w ≡ reasonOf a₆ → not (eqb a₄ 0) ≡ false →
+      valueOf (record { bound = record { integrality = g; interval = x }; ids = ids; len = a₅; kept = not (eqb a₄ 0); reason = w }) ≡ valueAt cells i
+  row-bare ids {a₄} {a₅} {g} {x} {w} e₀ e₁ e₂ e₃ e₄ e₅ e₆ eg ex ew bare =
+      same (not (eqb a₄ 0)) bare ∙ row-read e₀ e₁ e₂ e₃ e₄ e₅ e₆ eg ex ew refl
+    where
+      same : (k : Bool) → k ≡ false →
+          valueOf (record { bound = record { integrality = g; interval = x }; ids = ids; len = a₅; kept = k; reason = w })
+          ≡ valueOf (record { bound = record { integrality = g; interval = x }; ids = idsOf (padded row (drop at cells)); len = a₅; kept = k; reason = w })
+      same k e = rw e refl
+
   -- the stores of the bound, of three cells and of the ids, as one
   stores : (v : Value) →
       sets (set (set (set (sets cells at (boundCells (v .bound))) (at + 4) (keptCell (v .values))) (at + 5) (length (listOf (v .values)))) (at + 6) (reasonNumber (v .widening)))

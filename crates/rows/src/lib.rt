@@ -32,7 +32,7 @@ fn start(len: usize, number: usize) -> usize
     ROW * number
 }
 
-fn integrality_of(cell: u32) -> Integrality
+pub fn integrality_of(cell: u32) -> Integrality
     ensures { λ r. ⌜ r ≡ integralityOf cell ⌝ }
 {
     if cell == 0 {
@@ -105,12 +105,23 @@ pub fn abstract_at(cells: &[u32], row: usize) -> Abstract
     let kept = cell_at(cells, at + 4) != 0;
     let len = cell_at(cells, at + 5) as usize;
     let reason = reason_of(cell_at(cells, at + 6));
+    let bound = Bound {
+        integrality,
+        interval,
+    };
+    // Without a list there are no ids to read.
+    if !kept {
+        return Abstract {
+            bound,
+            ids: [0; 16],
+            len,
+            kept,
+            reason,
+        };
+    }
     let ids = ids_at(cells, at);
     Abstract {
-        bound: Bound {
-            integrality,
-            interval,
-        },
+        bound,
         ids,
         len,
         kept,

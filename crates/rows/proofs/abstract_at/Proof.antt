@@ -1,7 +1,8 @@
 -- `rows::abstract_at` meets its contract.
 use borrow.Author.Needs.{needs}
+use borrow.Author.Tests.{not-true}
 use denote.Ref.{now}
-use Rattle.rows.proofs.CodeLaws.{row-read}
+use Rattle.rows.proofs.CodeLaws.{row-read, row-bare}
 use Rattle.rows.proofs.abstract_at.Statement.{statement}
 use Rattle.rows.proofs.abstract_at.Tie as tie
 
@@ -59,11 +60,14 @@ cell-at-requires-7 c κs = search needs
 reason-of-requires : tie.Need-reason-of-requires
 reason-of-requires c κs = search needs
 
+returns : tie.Need-returns
+returns c = row-bare (now (c .before .before .before .before .before .before .before .before .before .before .before .before .before .args .cells)) (c .before .before .before .before .before .before .before .before .before .before .before .before .before .args .row) (c .before .before .before .before .before .before .before .before .before .before .before .start .result) (c .before .before .before .before .before .before .before .before .before .before .before .start .ensures) _ (c .before .before .before .before .before .before .before .before .before .before .cell-at .ensures) (c .before .before .before .before .before .before .before .before .cell-at2 .ensures) (c .before .before .before .before .before .before .before .cell-at3 .ensures) (c .before .before .before .before .before .before .cell-at4 .ensures) (c .before .before .before .before .cell-at5 .ensures) (c .before .before .before .cell-at6 .ensures) (c .before .before .cell-at7 .ensures) (c .before .before .before .before .before .before .before .before .before .integrality-of .ensures) (c .before .before .before .before .before .interval-of .ensures) (c .before .reason-of .ensures) (not-true _ (c .if1 .taken))
+
 ids-at-requires : tie.Need-ids-at-requires
 ids-at-requires c κs = search needs
 
-returns : tie.Need-returns
-returns c = row-read (now (c .before .before .before .before .before .before .before .before .before .before .before .before .before .args .cells)) (c .before .before .before .before .before .before .before .before .before .before .before .before .before .args .row) (c .before .before .before .before .before .before .before .before .before .before .before .start .result) (c .before .before .before .before .before .before .before .before .before .before .before .start .ensures) (c .before .before .before .before .before .before .before .before .before .before .cell-at .ensures) (c .before .before .before .before .before .before .before .before .cell-at2 .ensures) (c .before .before .before .before .before .before .before .cell-at3 .ensures) (c .before .before .before .before .before .before .cell-at4 .ensures) (c .before .before .before .before .cell-at5 .ensures) (c .before .before .before .cell-at6 .ensures) (c .before .before .cell-at7 .ensures) (c .before .before .before .before .before .before .before .before .before .integrality-of .ensures) (c .before .before .before .before .before .interval-of .ensures) (c .before .reason-of .ensures) (c .ids-at .ensures)
+returns-2 : tie.Need-returns-2
+returns-2 c = row-read (now (c .before .before .before .before .before .before .before .before .before .before .before .before .before .before .args .cells)) (c .before .before .before .before .before .before .before .before .before .before .before .before .before .before .args .row) (c .before .before .before .before .before .before .before .before .before .before .before .before .start .result) (c .before .before .before .before .before .before .before .before .before .before .before .before .start .ensures) (c .before .before .before .before .before .before .before .before .before .before .before .cell-at .ensures) (c .before .before .before .before .before .before .before .before .before .cell-at2 .ensures) (c .before .before .before .before .before .before .before .before .cell-at3 .ensures) (c .before .before .before .before .before .before .before .cell-at4 .ensures) (c .before .before .before .before .before .cell-at5 .ensures) (c .before .before .before .before .cell-at6 .ensures) (c .before .before .before .cell-at7 .ensures) (c .before .before .before .before .before .before .before .before .before .before .integrality-of .ensures) (c .before .before .before .before .before .before .interval-of .ensures) (c .before .before .reason-of .ensures) (c .ids-at .ensures)
 
 pub abstract-at-spec : {M : Type 1} → statement M
 abstract-at-spec =
@@ -87,5 +91,6 @@ abstract-at-spec =
     add-cell-at-6
     cell-at-requires-7
     reason-of-requires
+    returns
     ids-at-requires
-    returns)
+    returns-2)
