@@ -1,10 +1,10 @@
 -- Readings of a store whose run has ended. 01: "Reading gives an argument's bound, list, reason and recorded contexts, and the bound of a
 -- rule's slot before and after guards." A reading changes nothing.
-use Prim.Native.Nat.{ℕ, zero, suc, _+_, _*_}
+use Prim.Native.Nat.{ℕ, zero, suc, _+_, _*_, min}
 use mathlib.Core.Bool.{Bool, cond, _&&_}
 use mathlib.Core.List.{List, [], _∷_, _++_}
-use mathlib.Core.Option.{Option, some, none}
 use lib.Dec.{eqb, ltb}
+use lib.IntN.{ℤ}
 use lib.ListN.{length, getD}
 use Rattle.limits.specs.declared.Refusal.the-variants.{Closed, Shape, Missing, MissingSlot, Limit}
 use Rattle.limits.specs.Refusal.{Told, told}
@@ -12,7 +12,7 @@ use Rattle.interval.specs.declared.Bound.{Bound}
 use Rattle.cells.specs.Cells.{ofCell}
 use Rattle.lattice.specs.Value.{Value}
 use Rattle.rows.specs.Row.{row, integralityOf, intervalOf, valueAt}
-use Rattle.keys.specs.Key.{Key, kindAt, keyAt}
+use Rattle.keys.specs.Key.{nameAt, kindAt, payloadAt}
 use Rattle.store.specs.declared.Context.{Context}
 use Rattle.store.specs.declared.Phase.{Phase}
 use Rattle.store.specs.declared.Phase.the-variants.{Absent, Open, Completed, Stopped}
@@ -50,14 +50,19 @@ unfoldable pub contextsOf : List ℕ → ℕ → ℕ → List ℕ
 contextsOf records zero a = []
 contextsOf records (suc n) a = contextsOf records n a ++ cond (eqb (getD records (2 * n) 0) a) (getD records (2 * n + 1) 0 ∷ []) []
 
+-- a header that counts more records than the table has reads as one that counts all of them
+abbrev pub recorded : Store → List ℕ → ℕ → List ℕ
+recorded s records a = contextsOf records (min (s .counts .provenance) 1024) a
+
 -- how many, and the k-th
 unfoldable pub contextCountReading : Store → List ℕ → ℕ → Reading ℕ
-contextCountReading s records a = reading (eqb (length records) 2048) s (there (ltb a (s .counts .positions)) (length (contextsOf records (s .counts .provenance) a)))
+contextCountReading s records a = reading (eqb (length records) 2048) s (there (ltb a (s .counts .positions)) (length (recorded s records a)))
+
+abbrev pub nth : List ℕ → ℕ → Reading ℕ
+nth l k = there (ltb k (length l)) (getD l k 0)
 
 unfoldable pub contextReading : Store → List ℕ → ℕ → ℕ → Reading ℕ
-contextReading s records a k =
-    reading (eqb (length records) 2048) s
-    (cond (ltb a (s .counts .positions)) (there (ltb k (length (contextsOf records (s .counts .provenance) a))) (getD (contextsOf records (s .counts .provenance) a) k 0)) (refused (told Missing)))
+contextReading s records a k = reading (eqb (length records) 2048) s (cond (ltb a (s .counts .positions)) (nth (recorded s records a) k) (refused (told Missing)))
 
 -- ---- the slots of a rule
 
@@ -72,13 +77,25 @@ slotReading s rules slots r k after =
 
 -- ---- constants
 
--- its key; none of one that is not retained
-abbrev pub retainedKey : List ℕ → List ℕ → ℕ → Option Key
-retainedKey names constants id = cond (eqb (kindAt constants id) 1) (some (keyAt names constants id)) (cond (eqb (kindAt constants id) 2) (some (keyAt names constants id)) none)
+-- "a key is a signed 32-bit number or a name": of a name, whether it is retained
+pub data Kind : Type 0 where
+  number : ℤ → Kind
+  name : Kind
+  large : Kind
 
-unfoldable pub constantReading : Store → List ℕ → List ℕ → ℕ → Reading (Option Key)
-constantReading s names constants id =
-    reading (eqb (length names) 65536 && eqb (length constants) 2048) s (there (ltb id (s .counts .constants)) (retainedKey names constants id))
+abbrev pub kindOf : List ℕ → ℕ → Kind
+kindOf constants id = cond (eqb (kindAt constants id) 1) (number (ofCell (payloadAt constants id))) (cond (eqb (kindAt constants id) 2) name large)
+
+unfoldable pub keyReading : Store → List ℕ → ℕ → Reading Kind
+keyReading s constants id = reading (eqb (length constants) 2048) s (there (ltb id (s .counts .constants)) (kindOf constants id))
+
+-- "The name of a retained constant is handed back as a part of the lent name store": a number has none, and neither has a name that is not retained
+abbrev pub nameOf : List ℕ → List ℕ → ℕ → List ℕ
+nameOf names constants id = cond (eqb (kindAt constants id) 2) (nameAt names id (payloadAt constants id)) []
+
+unfoldable pub nameReading : Store → List ℕ → List ℕ → ℕ → Reading (List ℕ)
+nameReading s names constants id =
+    reading (eqb (length names) 65536 && eqb (length constants) 2048) s (there (ltb id (s .counts .constants)) (nameOf names constants id))
 
 -- ---- how the run has ended
 

@@ -2,20 +2,18 @@
 use Prim.Native.Nat.{ℕ}
 use mathlib.Core.Bool.{Bool}
 use mathlib.Core.List.{List, [], _∷_}
-use mathlib.Core.Option.{Option}
 use Rattle.limits.specs.declared.Limits.{Limits}
 use Rattle.limits.specs.Refusal.{Told}
 use Rattle.limits.specs.Metered.{Run, going, stopped}
 use Rattle.interval.specs.declared.Bound.{Bound}
 use Rattle.lattice.specs.Value.{Value}
-use Rattle.keys.specs.Key.{Key}
 use Rattle.store.specs.declared.Store.{Store}
 use Rattle.store.specs.Store.{freshOf}
 use Rattle.input.specs.Input.{Tables, withHeader, call}
 use Rattle.input.specs.Input as input
 use Rattle.engine.specs.Call.{read, runCall}
 use Rattle.engine.specs.Call as engine
-use Rattle.numeric.specs.Reading.{Reading, given, Status, argumentReading, contextCountReading, contextReading, slotReading, constantReading, statusReading}
+use Rattle.numeric.specs.Reading.{Reading, given, Kind, Status, argumentReading, contextCountReading, contextReading, slotReading, keyReading, nameReading, statusReading}
 use Rattle.numeric.specs.Reading as reading
 
 -- ---- calls and their answers
@@ -28,7 +26,8 @@ pub data Call : Type 0 where
   contextCount : ℕ → Call
   context : ℕ → ℕ → Call
   slot : ℕ → ℕ → Bool → Call
-  constant : ℕ → Call
+  key : ℕ → Call
+  name : ℕ → Call
   status : Call
 
 pub data Answer : Type 0 where
@@ -39,7 +38,8 @@ pub data Answer : Type 0 where
   value : Value → Answer
   number : ℕ → Answer
   bound : Bound → Answer
-  key : Option Key → Answer
+  kind : Kind → Answer
+  bytes : List ℕ → Answer
   ended : Status → Answer
 
 -- ---- the state: the store's tables, and the two that a run writes
@@ -102,7 +102,8 @@ step (argument a) s = onReading value s (argumentReading (s .tables .header) (s 
 step (contextCount a) s = onReading number s (contextCountReading (s .tables .header) (s .tables .records) a)
 step (context a k) s = onReading number s (contextReading (s .tables .header) (s .tables .records) a k)
 step (slot r k after) s = onReading bound s (slotReading (s .tables .header) (s .tables .rules) (s .slots) r k after)
-step (constant k) s = onReading key s (constantReading (s .tables .header) (s .tables .names) (s .tables .constants) k)
+step (key k) s = onReading kind s (keyReading (s .tables .header) (s .tables .constants) k)
+step (name k) s = onReading bytes s (nameReading (s .tables .header) (s .tables .names) (s .tables .constants) k)
 step status s = onReading ended s (statusReading (s .tables .header))
 
 -- ---- a list of calls
