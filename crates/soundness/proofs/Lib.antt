@@ -20,3 +20,4 @@ pub mod Phases
 pub mod Theorem
 pub mod HaltingRules
 pub mod Halting
+pub mod Coded

@@ -30,9 +30,9 @@ use Rattle.engine.specs.Call as engine
 use Rattle.input.specs.Input as input
 use Rattle.input.proofs.Played.{call-keeps}
 use Rattle.input.proofs.Reached.{fresh-open, fresh-reached}
-use Rattle.numeric.specs.Reading.{Reading, given, inPhase, there, argumentReading, contextCountReading, contextReading, slotReading, constantReading, statusReading}
+use Rattle.numeric.specs.Reading.{Reading, given, inPhase, there, argumentReading, contextCountReading, contextReading, slotReading, keyReading, nameReading, statusReading}
 use Rattle.numeric.specs.Reading as reading
-use Rattle.numeric.specs.Step.{Call, store, run, argument, contextCount, context, slot, constant, status, Answer, value, State, state, forRun, fromRun, onStore, onRun, onReading, step, Event, event, play, headerOf, fresh}
+use Rattle.numeric.specs.Step.{Call, store, run, argument, contextCount, context, slot, key, status, Answer, value, State, state, forRun, fromRun, onStore, onRun, onReading, step, Event, event, play, headerOf, fresh}
 use Rattle.numeric.specs.Step as calls
 use Rattle.soundness.specs.Plain.{Opaque}
 use Rattle.soundness.specs.Run.{Accepted, accepted, keyOf, said, noted, heardFrom, Firing, Reaches}
@@ -126,7 +126,8 @@ module _ (p : Accepted) (s : State) (shut : admits (s .tables .header .phase) �
   closed-step (contextCount a) = record { after = reading-after calls.number s (contextCountReading (s .tables .header) (s .tables .records) a); said = refl }
   closed-step (context a k) = record { after = reading-after calls.number s (contextReading (s .tables .header) (s .tables .records) a k); said = refl }
   closed-step (slot r k b) = record { after = reading-after calls.bound s (slotReading (s .tables .header) (s .tables .rules) (s .slots) r k b); said = refl }
-  closed-step (constant k) = record { after = reading-after calls.key s (constantReading (s .tables .header) (s .tables .names) (s .tables .constants) k); said = refl }
+  closed-step (key k) = record { after = reading-after calls.kind s (keyReading (s .tables .header) (s .tables .constants) k); said = refl }
+  closed-step (calls.name k) = record { after = reading-after calls.bytes s (nameReading (s .tables .header) (s .tables .names) (s .tables .constants) k); said = refl }
   closed-step status = record { after = reading-after calls.ended s (statusReading (s .tables .header)); said = refl }
 
   closed-heard : (cs : List Call) → heardFrom p (play s cs) ≡ p
@@ -196,7 +197,8 @@ module _ (ties : (c : input.Call) → input.Typed c → (p : Accepted) (t : inpu
       go (contextCount a) h = subst (Stands p) (sym (reading-after calls.number s (contextCountReading (s .tables .header) (s .tables .records) a))) (building o t)
       go (context a k) h = subst (Stands p) (sym (reading-after calls.number s (contextReading (s .tables .header) (s .tables .records) a k))) (building o t)
       go (slot r k b) h = subst (Stands p) (sym (reading-after calls.bound s (slotReading (s .tables .header) (s .tables .rules) (s .slots) r k b))) (building o t)
-      go (constant k) h = subst (Stands p) (sym (reading-after calls.key s (constantReading (s .tables .header) (s .tables .names) (s .tables .constants) k))) (building o t)
+      go (key k) h = subst (Stands p) (sym (reading-after calls.kind s (keyReading (s .tables .header) (s .tables .constants) k))) (building o t)
+      go (calls.name k) h = subst (Stands p) (sym (reading-after calls.bytes s (nameReading (s .tables .header) (s .tables .names) (s .tables .constants) k))) (building o t)
       go status h = subst (Stands p) (sym (reading-after calls.ended s (statusReading (s .tables .header)))) (building o t)
 
   -- ---- a list of calls

@@ -46,7 +46,8 @@ Typed (calls.argument a) = Unit {0}
 Typed (contextCount a) = Unit {0}
 Typed (calls.context a k) = Unit {0}
 Typed (slot r k after) = Unit {0}
-Typed (calls.constant k) = Unit {0}
+Typed (calls.key k) = Unit {0}
+Typed (calls.name k) = Unit {0}
 Typed status = Unit {0}
 
 pub record Lent (t : input.Tables) : Type 0 where

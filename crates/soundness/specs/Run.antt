@@ -14,7 +14,7 @@ use Rattle.rules.specs.declared.Rule.{Rule}
 use Rattle.rules.specs.Rule.{bindingsOf, guardsOf, headsOf}
 use Rattle.input.specs.Input.{context, work, predicate, argument, constant, expression, seedValue, seedInterval, rule, Reply, done, id}
 use Rattle.input.specs.Input as input
-use Rattle.numeric.specs.Step.{Event, store, run, contextCount, slot, status, refused, reply, ran, value, number, bound, key, ended}
+use Rattle.numeric.specs.Step.{Event, store, run, contextCount, slot, status, refused, reply, ran, value, number, bound, kind, bytes, ended}
 use Rattle.numeric.specs.Step as calls
 use Rattle.soundness.specs.Plain.{Tree, nothing, Opaque, Choices, PlainBinding, PlainGuard, PlainHead, State, Fires, into, HeadsGive}
 use Rattle.soundness.specs.Tied.{treeOf, bindingOf, guardOf, headOf}
@@ -104,7 +104,8 @@ replied p c ran = p
 replied p c (value v) = p
 replied p c (number n) = p
 replied p c (bound b) = p
-replied p c (key k) = p
+replied p c (kind k) = p
+replied p c (bytes b) = p
 replied p c (ended s) = p
 
 -- the run and readings say nothing
@@ -115,7 +116,8 @@ noted p (calls.argument b) a = p
 noted p (contextCount b) a = p
 noted p (calls.context b k) a = p
 noted p (slot r k after) a = p
-noted p (calls.constant k) a = p
+noted p (calls.key k) a = p
+noted p (calls.name k) a = p
 noted p status a = p
 
 unfoldable pub heardFrom : Accepted → List Event → Accepted
