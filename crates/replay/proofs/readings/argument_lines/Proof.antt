@@ -1,0 +1,48 @@
+-- `replay::readings::argument_lines` meets its contract.
+use Prim.Native.Nat.{_-_, _≤_}
+use mathlib.Core.Path.{_≡_}
+use lib.ListN.{length}
+use borrow.Author.Needs.{needs}
+use Rattle.replay.proofs.readings.argument_lines.Statement.{statement}
+use Rattle.replay.proofs.readings.argument_lines.Tie as tie
+
+abbrev Inv-loop : tie.InvT-loop
+Inv-loop store arguments output₀ at end place₀ i₀ output place i = (i ≤ end) × (length output ≡ length output₀)
+
+abbrev μ-loop : tie.MeasureT-loop
+μ-loop store arguments output₀ at end place₀ i₀ output place i = end - i
+
+loop-holds : tie.Need-loop-holds Inv-loop μ-loop
+loop-holds c = search needs
+
+argument-line-requires : tie.Need-argument-line-requires Inv-loop μ-loop
+argument-line-requires c κs = search needs
+
+add-i : tie.Need-add-i Inv-loop μ-loop
+add-i c = search needs
+
+loop-less : tie.Need-loop-less Inv-loop μ-loop
+loop-less c = search needs
+
+loop-again : tie.Need-loop-again Inv-loop μ-loop
+loop-again c = search needs
+
+same-length : tie.Need-same-length Inv-loop μ-loop
+same-length c = search needs
+
+returns : tie.Need-returns Inv-loop μ-loop
+returns c = search needs
+
+pub argument-lines-spec : {M : Type 1} → statement M
+argument-lines-spec =
+    tie.close
+    (tie.spec
+    Inv-loop
+    μ-loop
+    loop-holds
+    argument-line-requires
+    add-i
+    loop-less
+    loop-again
+    same-length
+    returns)
