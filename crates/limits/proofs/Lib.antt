@@ -6,3 +6,4 @@ pub mod Ends
 pub mod Onward
 pub mod Alike
 pub mod Charging
+pub mod Units

@@ -1,5 +1,5 @@
 -- The part of a budget that lattice and transfer charge, work and live entries, each beside its limit. Code hands it through as plain numbers.
-use Prim.Native.Nat.{ℕ, _-_}
+use Prim.Native.Nat.{ℕ, zero, suc, _-_}
 use Rattle.limits.specs.declared.Resource.the-variants.{Work, ValueEntries}
 use Rattle.limits.specs.declared.Stop.{Stop}
 use Rattle.limits.specs.declared.Charged.{Charged}
@@ -7,7 +7,7 @@ use Rattle.limits.specs.declared.Charged.the-variants.{Paid, Stopped}
 use Rattle.limits.specs.declared.Budget.{Budget}
 use Rattle.limits.specs.Charge.{chargeOf}
 use Rattle.limits.specs.Records.{withCount, withStatistics}
-use Rattle.limits.specs.Metered.{Run, going, stopped, Metered, onStop, finally, zoom}
+use Rattle.limits.specs.Metered.{Run, going, stopped, Metered, pure, _>>_, onStop, finally, zoom}
 
 pub record Meter : Type 0 where
   pub work : ℕ
@@ -31,6 +31,11 @@ charged put m (Stopped e n) = stopped e m
 
 unfoldable pub work : ℕ → Metered Stop Meter (Unit {0})
 work amount m = charged (λ n. withWork n m) m (chargeOf Work (m .work) amount (m .maxWork))
+
+-- n units of work, one by one: what a search pays that looks at n items
+unfoldable pub units : ℕ → Metered Stop Meter (Unit {0})
+units zero = pure tt
+units (suc n) = work 1 >> units n
 
 unfoldable pub retain : ℕ → Metered Stop Meter (Unit {0})
 retain count m = charged (λ n. withEntries n m) m (chargeOf ValueEntries (m .entries) count (m .maxEntries))

@@ -2,7 +2,7 @@
 //! turned down with. Counts go in by value and come back beside the outcome; no count ever wraps.
 ghost use mathlib.Core.Path.{_≡_};
 ghost use Prim.Native.Nat.{_-_};
-ghost use Rattle.limits.specs.Charge.{chargeOf};
+ghost use Rattle.limits.specs.Charge.{chargeOf, unitsOf};
 ghost use Rattle.limits.specs.Records.{countOf, limitOf, withCount, withStatistics, fresh};
 ghost use Rattle.limits.specs.Refusal.{resourceNumber, told};
 ghost use Rattle.limits.specs.Budget.{ran, charge, released, widenedOnce};
@@ -113,6 +113,22 @@ pub fn charge(resource: Resource, old: u64, amount: u64, limit: u64) -> Charged
         return Charged::Stopped(stop, old);
     }
     Charged::Paid(sum)
+}
+
+// `count` charges of one unit each: what a search pays that looks at `count` items. The first that is refused ends them.
+pub fn charge_units(resource: Resource, old: u64, count: u64, limit: u64) -> Charged
+    ensures { λ r. ⌜ r ≡ unitsOf resource old count limit ⌝ }
+{
+    if count == 0 {
+        return Charged::Paid(old);
+    }
+    if limit <= old {
+        return charge(resource, old, 1, limit);
+    }
+    if limit - old < count {
+        return charge(resource, limit, 1, limit);
+    }
+    Charged::Paid(old + count)
 }
 
 // `count` live entries fewer. Counts that no calls make stay at 0.
