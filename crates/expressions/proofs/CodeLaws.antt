@@ -1,12 +1,15 @@
 -- What the code's answers are, over plain variables: one law for each way out of a step.
-use Prim.Native.Nat.{ℕ, suc, _+_, _-_, _*_, _≤_, _<_, max}
+use Prim.Native.Nat.{ℕ, zero, suc, _+_, _-_, _*_, _≤_, _<_, max}
 use native.Mathlib.Omega.{arith}
+use native.Mathlib.Nat.{zero-add}
+use native.Mathlib.Numerals.{add-one}
 use mathlib.Core.Path.{_≡_, sym, ap, _∙_}
-use mathlib.Core.Bool.{Bool, true, false}
+use mathlib.Core.Bool.{Bool, true, false, cond}
 use mathlib.Core.List.{List}
 use borrow.Author.Tests.{lt-ltb, le-ltb, le-leb, lt-leb, eq-eqb, ne-eqb}
-use lib.Dec.{ltb}
-use lib.ListN.{length}
+use lib.Dec.{ltb, eqb}
+use lib.ListN.{length, getD}
+use Rattle.integers.proofs.Tests.{and-false}
 use Rattle.limits.specs.declared.Resource.the-variants.{Work}
 use Rattle.limits.specs.declared.Stop.{Stop}
 use Rattle.limits.specs.declared.Budget.{Budget}
@@ -15,15 +18,16 @@ use Rattle.limits.specs.declared.Charged.the-variants.{Paid}
 use Rattle.limits.specs.declared.Charged.the-variants as charged
 use Rattle.limits.specs.declared.Refusal.{Refusal}
 use Rattle.limits.specs.declared.Refusal.the-variants.{Closed, Shape, Full, Limit, Missing}
-use Rattle.limits.specs.Charge.{chargeOf}
+use Rattle.limits.specs.Charge.{unitsOf}
 use Rattle.limits.specs.Refusal.{Told, told}
 use Rattle.limits.specs.Records.{withCount, withStatistics}
 use Rattle.limits.specs.Metered.{Run, going, stopped, Metered, pure, after, _>>=_, _>>_, mapped, through}
-use Rattle.limits.specs.Meter.{meter, meterOf, metered}
+use Rattle.limits.specs.Meter.{Meter, meterOf, metered, units}
+use Rattle.limits.specs.Meter as inner
 use Rattle.limits.specs.Budget.{work, links}
-use Rattle.limits.proofs.Monad.{bind-on, then-on, then-stop, through-on, through-stop}
-use Rattle.limits.proofs.CodeLaws.{work-paid, work-stopped}
-use Rattle.search.specs.Seek.{absent}
+use Rattle.limits.proofs.Monad.{bind-on, then-on, then-stop, through-on, through-stop, pure-is}
+use Rattle.limits.proofs.Units.{units-paid, units-stopped, units-more, units-nothing}
+use Rattle.search.specs.Seek.{Place, found, absent}
 use Rattle.search.specs.declared.Sought.{Sought}
 use Rattle.search.specs.declared.Sought.the-variants.{Found, Absent, Stopped}
 use Rattle.search.specs.Answers.{Seeks, sought}
@@ -43,7 +47,7 @@ use Rattle.store.specs.Store.{admits, withBudget, withExpressions}
 use Rattle.store.specs.Calls.{unless, charged as billed}
 use Rattle.store.specs.Answers.{done}
 use Rattle.store.proofs.CodeLaws.{charged-counts}
-use Rattle.expressions.specs.Expression.{supported, childNesting, deepest, valid, shared, seekNode, older, Tables, tables, paying, settle, share, expressionCall}
+use Rattle.expressions.specs.Expression.{supported, childNesting, deepest, valid, shared, firstNode, seekNode, older, Tables, tables, paying, settle, share, expressionCall}
 use Rattle.expressions.specs.Answers.{onTables, Shares}
 
 -- ---- nesting
@@ -75,40 +79,97 @@ module _ (n : Counts) {v : Expression} where
     pub valid-left : n .expressions ≤ l → false ≡ valid n v
     valid-left h = rw (p, le-ltb l (n .expressions) h)
 
--- ---- the search: where it stands, and each way out of a turn
+-- ---- the search: the place, and each way out of a turn
 
-module _ (nodes : List ℕ) (e : Node) (count w mw : ℕ) where
-  -- n is the work so far
-  pub record Seeking (i n : ℕ) : Type 0 where
-    pub at : (en me : ℕ) → seekNode nodes e 0 count (meter w mw en me) ≡ seekNode nodes e i (count - i) (meter n mw en me)
+other-left : (m n : Node) → (m .left ≡ n .left → ⊥) → sameNode m n ≡ false
+other-left m n h = rw (ne-eqb (m .left) (n .left) h, and-false (eqb (m .operator) (n .operator))) (and-false (eqb (m .kind) (n .kind)))
 
-  pub seeking : Seeking 0 w
-  seeking = let z : count - 0 ≡ count = omega arith in record { at = λ en me. rw z }
+module _ (nodes : List ℕ) (e : Node) (count : ℕ) where
+  -- the place is not before the row i
+  pub record Ahead (i : ℕ) : Type 0 where
+    pub is : firstNode nodes e 0 count ≡ i + firstNode nodes e i (count - i)
 
-  module _ {i n : ℕ} (s : Seeking i n) where
-    pub seek-absent : count ≤ i → Seeks (seekNode nodes e 0 count) w mw (Absent i n)
-    unfolding seekNode pure
-    seek-absent h = let z : count - i ≡ 0 = omega arith in record { at = λ en me. sym (s .at en me ∙ rw z) }
+  pub ahead-begins : Ahead 0
+  ahead-begins = let z : count - 0 ≡ count = omega arith in record { is = rw z (omega arith) }
 
-    module _ {x : Charged} (h : i < count) (b : x ≡ chargeOf Work n 1 mw) where
-      pub seek-stopped : {stop : Stop} {n′ : ℕ} → x ≡ charged.Stopped stop n′ → Seeks (seekNode nodes e 0 count) w mw (Stopped stop n′)
-      unfolding seekNode _>>_ _>>=_ after
-      seek-stopped q =
-          let z : count - i ≡ suc (count - (i + 1)) = omega arith in
-          record { at = λ en me. sym (s .at en me ∙ rw (z, ← work-stopped n mw en me 1 b q)) }
+  module _ {i : ℕ} (s : Ahead i) where
+    pub ahead-none : count ≤ i → i ≡ firstNode nodes e 0 count
+    unfolding firstNode
+    ahead-none h =
+        let z : count - i ≡ 0 = omega arith in
+        let f : firstNode nodes e i (count - i) ≡ 0 = rw z in
+        omega (arith, s .is)
 
-      module _ {n′ : ℕ} {o : Node} {t : Bool} (q : x ≡ Paid n′) (c : o ≡ nodeAt nodes i) (a : t ≡ sameNode o e) where
-        pub seek-found : t ≡ true → Seeks (seekNode nodes e 0 count) w mw (Found i n′)
-        unfolding seekNode _>>_ _>>=_ after pure
-        seek-found y =
-            let z : count - i ≡ suc (count - (i + 1)) = omega arith in
-            record { at = λ en me. sym (s .at en me ∙ rw (z, ← work-paid n mw en me 1 b q, ← c, ← a, y)) }
+    module _ (h : i < count) where
+      first : {t : Bool} → t ≡ sameNode (nodeAt nodes i) e → firstNode nodes e i (count - i) ≡ cond t 0 (suc (firstNode nodes e (i + 1) (count - (i + 1))))
+      unfolding firstNode
+      first a = let z : count - i ≡ suc (count - (i + 1)) = omega arith in rw (z, ← a)
 
-        pub seek-next : t ≡ false → Seeking (i + 1) n′
-        unfolding seekNode _>>_ _>>=_ after
-        seek-next y =
-            let z : count - i ≡ suc (count - (i + 1)) = omega arith in
-            record { at = λ en me. s .at en me ∙ rw (z, ← work-paid n mw en me 1 b q, ← c, ← a, y) }
+      past : false ≡ sameNode (nodeAt nodes i) e → Ahead (i + 1)
+      past a = let f = first a in record { is = omega (arith, s .is) }
+
+      -- most rows differ in this cell
+      pub ahead-left : (getD nodes (row * i + 2) 0 ≡ e .left → ⊥) → Ahead (i + 1)
+      unfolding nodeAt
+      ahead-left n = past (sym (other-left (nodeAt nodes i) e n))
+
+      module _ {o : Node} {t : Bool} (c : o ≡ nodeAt nodes i) (a : t ≡ sameNode o e) where
+        pub ahead-here : t ≡ true → i ≡ firstNode nodes e 0 count
+        ahead-here y =
+            let f : firstNode nodes e i (count - i) ≡ 0 = first (a ∙ ap (λ (m : Node). sameNode m e) c) ∙ rw y in
+            omega (arith, s .is)
+
+        pub ahead-past : t ≡ false → Ahead (i + 1)
+        ahead-past y = past (sym y ∙ a ∙ ap (λ (m : Node). sameNode m e) c)
+
+-- ---- what it pays: a unit for each row that it looked at
+
+module _ (nodes : List ℕ) (e : Node) where
+  abbrev FoundFrom : ℕ → ℕ → ℕ → Metered Stop Meter Place → Type 0
+  FoundFrom k at n m = (s : Meter) → k < n → (units (suc k) >> pure (found (at + k))) s ≡ m s
+
+  abbrev NoneFrom : ℕ → ℕ → ℕ → Metered Stop Meter Place → Type 0
+  NoneFrom k at n m = (s : Meter) → n ≤ k → (units n >> pure (absent (at + n))) s ≡ m s
+
+  found-at : (k at n : ℕ) (b : Bool) {m : Metered Stop Meter Place} → FoundFrom k (at + 1) n m → FoundFrom (cond b 0 (suc k)) at (suc n) (inner.work 1 >> cond b (pure (found at)) m)
+  found-at k at n true h s l = let z : at + 0 ≡ at = omega arith in rw z (units-more 0 _ _ s (units-nothing _))
+  found-at k at n false h s l = let z : at + suc k ≡ at + 1 + k = omega arith in rw z (units-more _ _ _ s (λ t. h t (omega arith)))
+
+  node-found : (n at : ℕ) → FoundFrom (firstNode nodes e at n) at n (seekNode nodes e at n)
+  unfolding firstNode seekNode
+  node-found zero at s l = absurd (omega arith)
+  node-found (suc n) at s l = found-at _ at n (sameNode (nodeAt nodes at) e) (node-found n (at + 1)) s l
+
+  none-at : (k at n : ℕ) (b : Bool) {m : Metered Stop Meter Place} → NoneFrom k (at + 1) n m → NoneFrom (cond b 0 (suc k)) at (suc n) (inner.work 1 >> cond b (pure (found at)) m)
+  none-at k at n true h s l = absurd (omega arith)
+  none-at k at n false h s l = let z : at + suc n ≡ at + 1 + n = omega arith in rw z (units-more _ _ _ s (λ t. h t (omega arith)))
+
+  node-none : (n at : ℕ) → NoneFrom (firstNode nodes e at n) at n (seekNode nodes e at n)
+  unfolding firstNode seekNode
+  node-none zero at s l = let z : at + 0 ≡ at = omega arith in rw z (units-nothing _ s)
+  node-none (suc n) at s l = none-at _ at n (sameNode (nodeAt nodes at) e) (node-none n (at + 1)) s l
+
+-- and the code's answers
+module _ (nodes : List ℕ) (e : Node) (count w mw : ℕ) {p : ℕ} (h : p ≡ firstNode nodes e 0 count) {x : Charged} where
+  module _ (k : p < count) (b : x ≡ unitsOf Work w (p + 1) mw) where
+    look : (s : Meter) → (units (p + 1) >> pure (found p)) s ≡ seekNode nodes e 0 count s
+    look s = rw (h, add-one) (rw zero-add at (node-found nodes e count 0 s (rw h at k)))
+
+    pub seek-stopped : {stop : Stop} {n : ℕ} → x ≡ charged.Stopped stop n → Seeks (seekNode nodes e 0 count) w mw (Stopped stop n)
+    seek-stopped q = record { at = λ en me. then-stop _ _ _ (units-stopped mw en me (p + 1) w b q) ∙ look _ }
+
+    pub seek-found : {n : ℕ} → x ≡ Paid n → Seeks (seekNode nodes e 0 count) w mw (Found p n)
+    seek-found q = record { at = λ en me. then-on _ _ _ (units-paid mw en me (p + 1) w b q) (pure-is _ _) ∙ look _ }
+
+  module _ (k : count ≤ p) (b : x ≡ unitsOf Work w count mw) where
+    miss : (s : Meter) → (units count >> pure (absent count)) s ≡ seekNode nodes e 0 count s
+    miss s = rw zero-add at (node-none nodes e count 0 s (rw h at k))
+
+    pub miss-stopped : {stop : Stop} {n : ℕ} → x ≡ charged.Stopped stop n → Seeks (seekNode nodes e 0 count) w mw (Stopped stop n)
+    miss-stopped q = record { at = λ en me. then-stop _ _ _ (units-stopped mw en me count w b q) ∙ miss _ }
+
+    pub seek-absent : {n : ℕ} → x ≡ Paid n → Seeks (seekNode nodes e 0 count) w mw (Absent count n)
+    seek-absent q = record { at = λ en me. then-on _ _ _ (units-paid mw en me count w b q) (pure-is _ _) ∙ miss _ }
 
 -- an Unknown is not sought
 module _ (nodes : List ℕ) (count : ℕ) (v : Expression) (w mw : ℕ) {t : Bool} (h : t ≡ shared v) where
@@ -211,8 +272,8 @@ module _ (e : Expression) (s : Store) (nodes : List ℕ) where
               same-counts : u .counts ≡ s .counts
               same-counts = charged-counts (work 1) s p
 
-              pub share-ready : (u .counts .expressions < 1024) × (deepest nodes (u .counts .expressions) e < 64)
-              share-ready = rw same-counts (f, rw (← g) k)
+              pub share-ready : (u .counts .expressions < 1024) × (deepest nodes (u .counts .expressions) e < 64) × (row * 1024 ≤ length nodes)
+              share-ready = rw same-counts (f, rw (← g) k, omega arith)
 
               module _ {v : Bool} (w : v ≡ valid (s .counts) e) where
                 now-valid : v ≡ valid (u .counts) e

@@ -77,6 +77,11 @@ unfoldable pub seekNode : List ℕ → Node → ℕ → ℕ → Metered Stop Met
 seekNode nodes e at zero = pure (absent at)
 seekNode nodes e at (suc n) = inner.work 1 >> cond (sameNode (nodeAt nodes at) e) (pure (found at)) (seekNode nodes e (at + 1) n)
 
+-- how many of n rows, from the row `at` on, come before the first that has these cells: all of them where none has
+unfoldable pub firstNode : List ℕ → Node → ℕ → ℕ → ℕ
+firstNode nodes e at zero = 0
+firstNode nodes e at (suc n) = cond (sameNode (nodeAt nodes at) e) 0 (suc (firstNode nodes e (at + 1) n))
+
 -- "`expression` gives an equal older id except for Unknown"
 abbrev pub shared : Expression → Bool
 shared (Constant id) = true

@@ -11,10 +11,12 @@ use store::Counts;
 use store::Done;
 use store::Store;
 ghost use mathlib.Core.Path.{_≡_};
-ghost use Prim.Native.Nat.{_+_, _<_, max};
+ghost use Prim.Native.Nat.{_+_, _*_, _≤_, _<_, max};
+ghost use lib.ListN.{length};
+ghost use Rattle.nodes.specs.Node.{row};
 ghost use Rattle.search.specs.Answers.{Seeks};
 ghost use Rattle.store.specs.Store.{withExpressions};
-ghost use Rattle.expressions.specs.Expression.{ported, supported, childNesting, deepest, valid, shared, seekNode, older, tables, expressionCall};
+ghost use Rattle.expressions.specs.Expression.{ported, supported, childNesting, deepest, valid, shared, firstNode, seekNode, older, tables, expressionCall};
 ghost use Rattle.expressions.specs.Answers.{onTables, Shares};
 
 // The expressions that the table has rows for, and how deep they may be nested.
@@ -121,32 +123,49 @@ fn is_shared(value: Expression) -> bool
     }
 }
 
-// The first of the rows that has these cells; one unit of work for each that is looked at.
-fn seek_node(nodes: &[u64], count: usize, node: Node, work: u64, max_work: u64) -> Sought
-    ensures { λ r. ⌜ Seeks (seekNode (now (nodes .entry)) node 0 count) work «max_work» r ⌝ }
+// The first of the rows that has these cells, or their number. Most rows differ in `left`: it is compared before the others are read.
+fn first_node(nodes: &[u64], count: usize, node: Node) -> usize
+    requires { ⌜ row * count ≤ length (now nodes) ⌝ }
+    ensures { λ r. ⌜ r ≡ firstNode (now (nodes .entry)) node 0 count ⌝ }
 {
     let mut i: usize = 0;
-    let mut spent = work;
     while i < count {
-        match limits::charge(Resource::Work, spent, 1, max_work) {
+        if nodes[nodes::ROW * i + 2] == node.left {
+            let old = nodes::node_at(nodes, i);
+            if old.same(node) {
+                return i;
+            }
+        }
+        i += 1;
+    }
+    i
+}
+
+// The first of the rows that has these cells; one unit of work for each that is looked at.
+fn seek_node(nodes: &[u64], count: usize, node: Node, work: u64, max_work: u64) -> Sought
+    requires { ⌜ row * count ≤ length (now nodes) ⌝ }
+    ensures { λ r. ⌜ Seeks (seekNode (now (nodes .entry)) node 0 count) work «max_work» r ⌝ }
+{
+    let place = first_node(nodes, count, node);
+    if place < count {
+        match limits::charge_units(Resource::Work, work, place as u64 + 1, max_work) {
             Charged::Stopped(stop, now) => {
                 return Sought::Stopped(stop, now);
             }
             Charged::Paid(now) => {
-                spent = now;
+                return Sought::Found(place, now);
             }
         }
-        let old = nodes::node_at(nodes, i);
-        if old.same(node) {
-            return Sought::Found(i, spent);
-        }
-        i += 1;
     }
-    Sought::Absent(i, spent)
+    match limits::charge_units(Resource::Work, work, count as u64, max_work) {
+        Charged::Stopped(stop, now) => Sought::Stopped(stop, now),
+        Charged::Paid(now) => Sought::Absent(count, now),
+    }
 }
 
 // The older equal expression, if there is one. An Unknown is not sought.
 fn seek_older(nodes: &[u64], count: usize, value: Expression, work: u64, max_work: u64) -> Sought
+    requires { ⌜ row * count ≤ length (now nodes) ⌝ }
     ensures { λ r. ⌜ Seeks (older (now (nodes .entry)) count value) work «max_work» r ⌝ }
 {
     if is_shared(value) {
@@ -167,7 +186,7 @@ fn with_expression(store: Store) -> Store
 
 // An expression that the call takes: the older id, or a new row.
 fn share(store: Store, value: Expression, nodes: &mut [u64]) -> Answer
-    requires { ⌜ (store .counts .expressions < 1024) × (deepest (now nodes) (store .counts .expressions) value < 64) ⌝ }
+    requires { ⌜ (store .counts .expressions < 1024) × (deepest (now nodes) (store .counts .expressions) value < 64) × (row * 1024 ≤ length (now nodes)) ⌝ }
     ensures { λ r. ⌜ Shares value store (now (nodes .entry)) r (now (nodes .exit)) ⌝ }
 {
     let budget = store.budget;

@@ -38,7 +38,7 @@ use Rattle.widening.specs.declared.Sided.the-variants.{At}
 use Rattle.widening.specs.declared.Sided.the-variants as sided
 use Rattle.widening.specs.declared.Widened.the-variants.{Into}
 use Rattle.widening.specs.declared.Widened.the-variants as widened
-use Rattle.widening.specs.Widening.{growth, nearest, below, above, grow, widenLow, widenHigh, withEnds, widen, growthAt, putGrowth, noGrowth}
+use Rattle.widening.specs.Widening.{growth, nearest, below, grow, widenLow, widenHigh, withEnds, widen, growthAt, putGrowth, noGrowth}
 use Rattle.widening.specs.Answers.{movedTo, sidedAt, Moves, Sides, Widens}
 
 -- ---- growth in its cells
@@ -118,10 +118,6 @@ module _ (thresholds : List ℤ) {end : ℤ} (f : SFits w32 end) {w mw : ℕ} {r
   pub below-is : Moves (nearest (λ t. leZ t (toZ w32 (ofZ w32 end))) (toZ w32 (ofZ w32 end)) (reverse thresholds)) w mw r → Moves (below thresholds end) w mw r
   unfolding below
   below-is h = rw (toZ-ofZ f) at h
-
-  pub above-is : Moves (nearest (λ t. leZ (toZ w32 (ofZ w32 end)) t) (toZ w32 (ofZ w32 end)) thresholds) w mw r → Moves (above thresholds end) w mw r
-  unfolding above
-  above-is h = rw (toZ-ofZ f) at h
 
 -- ---- a side, over what keeps it and over its search
 

@@ -9,7 +9,7 @@ use lib.ListN.{getD}
 use lib.Seq.{sets}
 use Rattle.limits.specs.declared.Stop.{Stop}
 use Rattle.limits.specs.Metered.{Metered, pure, _>>=_, _>>_}
-use Rattle.limits.specs.Meter.{Meter, work}
+use Rattle.limits.specs.Meter.{Meter, work, units}
 use Rattle.interval.specs.declared.Interval.{Interval}
 use Rattle.interval.specs.declared.Interval.the-variants.{Bottom, Bounded, Unbounded}
 use Rattle.interval.specs.declared.Endpoints.{Endpoints}
@@ -34,6 +34,15 @@ side z n = record { end = z; grown = n }
 unfoldable pub nearest : (ℤ → Bool) → ℤ → List ℤ → Metered Stop Meter ℤ
 nearest beyond end [] = pure end
 nearest beyond end (t ∷ l) = work 1 >> cond (beyond t) (pure t) (nearest beyond end l)
+
+-- the place of the first item that the test holds of, or the number of items
+unfoldable pub firstOf : (ℤ → Bool) → List ℤ → ℕ
+firstOf test [] = 0
+firstOf test (t ∷ l) = cond (test t) 0 (suc (firstOf test l))
+
+-- an end, and a unit of work for each of n thresholds that were looked at
+unfoldable pub paidFor : ℕ → ℤ → Metered Stop Meter ℤ
+paidFor n end = units n >> pure end
 
 -- sought from the top
 unfoldable pub below : List ℤ → ℤ → Metered Stop Meter ℤ

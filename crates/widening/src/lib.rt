@@ -5,7 +5,10 @@ use limits::Charged;
 use limits::Resource;
 use limits::Stop;
 ghost use mathlib.Core.Path.{_≡_};
-ghost use Rattle.widening.specs.Widening.{below, above, widenLow, widenHigh, withEnds, widen, growthAt, putGrowth, noGrowth};
+ghost use Prim.Native.Nat.{_+_};
+ghost use lib.Signed.{leZ};
+ghost use lib.ListN.{drop};
+ghost use Rattle.widening.specs.Widening.{firstOf, paidFor, below, above, widenLow, widenHigh, withEnds, widen, growthAt, putGrowth, noGrowth};
 ghost use Rattle.widening.specs.Answers.{Moves, Sides, Widens};
 
 // How often the sides of an argument's interval have grown, counted to two.
@@ -91,28 +94,63 @@ fn threshold_below(thresholds: &[i32], low: i32, work: u64, max_work: u64) -> Mo
     Moved::To(low, spent)
 }
 
+// The place of the first threshold from `from` on that is not below `high`, or where they end.
+fn first_from(thresholds: &[i32], high: i32, from: usize) -> usize
+    ensures { λ r. ⌜ r ≡ from + firstOf (leZ high) (drop from (now (thresholds .entry))) ⌝ }
+{
+    let mut i = from;
+    while i < thresholds.len() {
+        if high <= thresholds[i] {
+            return i;
+        }
+        i += 1;
+    }
+    i
+}
+
+// The place of the first threshold that is not below `high`, or their number. Four are looked at in a turn: one by one, the
+// speed hangs on where the loop comes to stand in memory.
+fn first_above(thresholds: &[i32], high: i32) -> usize
+    ensures { λ r. ⌜ r ≡ firstOf (leZ high) (now (thresholds .entry)) ⌝ }
+{
+    let mut i: usize = 0;
+    while 4 <= thresholds.len() - i {
+        if high <= thresholds[i] {
+            return i;
+        }
+        if high <= thresholds[i + 1] {
+            return i + 1;
+        }
+        if high <= thresholds[i + 2] {
+            return i + 2;
+        }
+        if high <= thresholds[i + 3] {
+            return i + 3;
+        }
+        i += 4;
+    }
+    first_from(thresholds, high, i)
+}
+
+// The end that a search comes to, once it has paid a unit of work for each threshold that it looked at.
+fn pay_for(end: i32, looked: u64, work: u64, max_work: u64) -> Moved
+    ensures { λ r. ⌜ Moves (paidFor looked end) work «max_work» r ⌝ }
+{
+    match limits::charge_units(Resource::Work, work, looked, max_work) {
+        Charged::Stopped(stop, now) => Moved::Stopped(stop, now),
+        Charged::Paid(now) => Moved::To(end, now),
+    }
+}
+
 // The least threshold that is not below `high`, sought from the bottom.
 fn threshold_above(thresholds: &[i32], high: i32, work: u64, max_work: u64) -> Moved
     ensures { λ r. ⌜ Moves (above (now (thresholds .entry)) high) work «max_work» r ⌝ }
 {
-    let mut i: usize = 0;
-    let mut spent = work;
-    while i < thresholds.len() {
-        match limits::charge(Resource::Work, spent, 1, max_work) {
-            Charged::Stopped(stop, now) => {
-                return Moved::Stopped(stop, now);
-            }
-            Charged::Paid(now) => {
-                spent = now;
-            }
-        }
-        let threshold = thresholds[i];
-        if high <= threshold {
-            return Moved::To(threshold, spent);
-        }
-        i += 1;
+    let place = first_above(thresholds, high);
+    if place < thresholds.len() {
+        return pay_for(thresholds[place], place as u64 + 1, work, max_work);
     }
-    Moved::To(high, spent)
+    pay_for(high, place as u64, work, max_work)
 }
 
 // The low side: counted the first two times that it grows, and moved to a threshold later.

@@ -1,81 +1,86 @@
 -- `expressions::seek_node` meets its contract.
-use Prim.Native.Nat.{_-_}
 use borrow.Author.Needs.{needs}
-use Rattle.expressions.proofs.CodeLaws.{Seeking, seeking, seek-absent, seek-stopped, seek-found, seek-next}
+use Rattle.expressions.proofs.CodeLaws.{seek-stopped, seek-found, miss-stopped, seek-absent}
 use Rattle.expressions.proofs.seek_node.Statement.{statement}
 use Rattle.expressions.proofs.seek_node.Tie as tie
 
-abbrev Inv-loop : tie.InvT-loop
-Inv-loop nodes count node work max-work i₀ spent₀ i spent = Seeking nodes node count work max-work i spent
+first-node-requires : tie.Need-first-node-requires
+first-node-requires c κs = search needs
 
-abbrev μ-loop : tie.MeasureT-loop
-μ-loop nodes count node work max-work i₀ spent₀ i spent = count - i
+add-charge-units : tie.Need-add-charge-units
+add-charge-units c = search needs
 
-loop-holds : tie.Need-loop-holds Inv-loop μ-loop
-loop-holds c = seeking _ _ _ _ _
+charge-units-requires : tie.Need-charge-units-requires
+charge-units-requires c κs = search needs
 
-charge-requires : tie.Need-charge-requires Inv-loop μ-loop
-charge-requires c κs = search needs
-
-enum-known-stop : tie.Need-enum-known-stop Inv-loop μ-loop
+enum-known-stop : tie.Need-enum-known-stop
 enum-known-stop c = search needs
 
-returns : tie.Need-returns Inv-loop μ-loop
-returns c = seek-stopped _ _ _ _ _ (c .before .before .before .before .before .loop .inv) (c .before .before .before .before .loop-test .taken) (c .before .before .before .charge .ensures) (c .before .stop .given .1)
+returns : tie.Need-returns
+returns c =
+    let c₁ = c .before in
+    let c₃ = c₁ .before .before in
+    let c₄ = c₃ .before in
+    let c₅ = c₄ .before in
+    let c₇ = c₅ .before .before in
+    let a = c₇ .args in
+    seek-stopped (a .nodes .now) (a .node) (a .count) (a .work) (a .max-work) (c₅ .first-node .ensures) (c₄ .if1 .taken) (c₃ .charge-units .ensures) (c₁ .stop .given .1)
 
-enum-known-now : tie.Need-enum-known-now Inv-loop μ-loop
+enum-known-now : tie.Need-enum-known-now
 enum-known-now c = search needs
 
-node-at-requires : tie.Need-node-at-requires Inv-loop μ-loop
-node-at-requires c κs = search needs
-
-same-requires : tie.Need-same-requires Inv-loop μ-loop
-same-requires c κs = search needs
-
-returns-2 : tie.Need-returns-2 Inv-loop μ-loop
+returns-2 : tie.Need-returns-2
 returns-2 c =
     let c₁ = c .before in
-    let c₂ = c₁ .before in
-    let c₃ = c₂ .before .before in
-    let c₄ = c₃ .before .before in
+    let c₃ = c₁ .before .before in
+    let c₄ = c₃ .before in
     let c₅ = c₄ .before in
-    let c₆ = c₅ .before in
-    seek-found _ _ _ _ _ (c₆ .loop .inv) (c₅ .loop-test .taken) (c₄ .charge .ensures) (c₃ .now .given .1) (c₂ .node-at .ensures) (c₁ .same .ensures) (c .if1 .taken)
+    let c₇ = c₅ .before .before in
+    let a = c₇ .args in
+    seek-found (a .nodes .now) (a .node) (a .count) (a .work) (a .max-work) (c₅ .first-node .ensures) (c₄ .if1 .taken) (c₃ .charge-units .ensures) (c₁ .now .given .1)
 
-add-i : tie.Need-add-i Inv-loop μ-loop
-add-i c = search needs
+charge-units-requires-2 : tie.Need-charge-units-requires-2
+charge-units-requires-2 c κs = search needs
 
-loop-less : tie.Need-loop-less Inv-loop μ-loop
-loop-less c = search needs
+enum-known-stop-2 : tie.Need-enum-known-stop-2
+enum-known-stop-2 c = search needs
 
-loop-again : tie.Need-loop-again Inv-loop μ-loop
-loop-again c =
+enum-known-now-2 : tie.Need-enum-known-now-2
+enum-known-now-2 c = search needs
+
+returns-3 : tie.Need-returns-3
+returns-3 c =
     let c₁ = c .before in
-    let c₂ = c₁ .before in
-    let c₃ = c₂ .before .before in
-    let c₄ = c₃ .before .before in
+    let c₃ = c₁ .before .before in
+    let c₄ = c₃ .before in
     let c₅ = c₄ .before in
-    let c₆ = c₅ .before in
-    seek-next _ _ _ _ _ (c₆ .loop .inv) (c₅ .loop-test .taken) (c₄ .charge .ensures) (c₃ .now .given .1) (c₂ .node-at .ensures) (c₁ .same .ensures) (c .if1 .left)
+    let c₇ = c₅ .before .before in
+    let a = c₇ .args in
+    miss-stopped (a .nodes .now) (a .node) (a .count) (a .work) (a .max-work) (c₅ .first-node .ensures) (c₄ .if1 .left) (c₃ .charge-units2 .ensures) (c₁ .stop2 .given .1)
 
-returns-3 : tie.Need-returns-3 Inv-loop μ-loop
-returns-3 c = seek-absent _ _ _ _ _ (c .before .loop .inv) (c .loop-test .left)
+returns-4 : tie.Need-returns-4
+returns-4 c =
+    let c₁ = c .before in
+    let c₃ = c₁ .before .before in
+    let c₄ = c₃ .before in
+    let c₅ = c₄ .before in
+    let c₇ = c₅ .before .before in
+    let a = c₇ .args in
+    seek-absent (a .nodes .now) (a .node) (a .count) (a .work) (a .max-work) (c₅ .first-node .ensures) (c₄ .if1 .left) (c₃ .charge-units2 .ensures) (c₁ .now2 .given .1)
 
 pub seek-node-spec : {M : Type 1} → statement M
 seek-node-spec =
     tie.close
     (tie.spec
-    Inv-loop
-    μ-loop
-    loop-holds
-    charge-requires
+    first-node-requires
+    add-charge-units
+    charge-units-requires
     enum-known-stop
     returns
     enum-known-now
-    node-at-requires
-    same-requires
     returns-2
-    add-i
-    loop-less
-    loop-again
-    returns-3)
+    charge-units-requires-2
+    enum-known-stop-2
+    enum-known-now-2
+    returns-3
+    returns-4)

@@ -1,100 +1,57 @@
 -- `widening::threshold_above` meets its contract.
-use Prim.Native.Nat.{_-_}
-use mathlib.Core.Path.{refl}
 use borrow.Author.Needs.{needs, sfits-of}
-use lib.Signed.{leZ}
 use lib.IntN.{pos}
-use lib.ListN.{length, getD, drop, drop-of-length-le}
+use lib.ListN.{getD}
 use mir.Facts.{toZ-ofZ}
-use mir.Val.{SFits, toZ}
+use mir.Val.{SFits}
 use mir.Syntax.{w32}
-use Rattle.widening.proofs.CodeLaws.{Seeking, seeking-begins, seeking-none, seeking-stops, seeking-hits, seeking-passes, bottom-first, above-is}
+use Rattle.widening.proofs.Place.{above-found, above-none}
 use Rattle.widening.proofs.threshold_above.Statement.{statement}
 use Rattle.widening.proofs.threshold_above.Tie as tie
 
-abbrev Inv-loop : tie.InvT-loop
-Inv-loop thresholds high work max-work i₀ spent₀ i spent =
-    Seeking (λ t. leZ (toZ w32 high) t) (toZ w32 high) thresholds work max-work (drop i thresholds) spent
+first-above-requires : tie.Need-first-above-requires
+first-above-requires c κs = search needs
 
-abbrev μ-loop : tie.MeasureT-loop
-μ-loop thresholds high work max-work i₀ spent₀ i spent = length thresholds - i
+mul-pay-for : tie.Need-mul-pay-for
+mul-pay-for c = search needs
 
-loop-holds : tie.Need-loop-holds Inv-loop μ-loop
-loop-holds c = seeking-begins _ _ _ _ _ refl
+shared-slice-copy-out-pay-for : tie.Need-shared-slice-copy-out-pay-for
+shared-slice-copy-out-pay-for c = search needs
 
-charge-requires : tie.Need-charge-requires Inv-loop μ-loop
-charge-requires c κs = search needs
+add-pay-for : tie.Need-add-pay-for
+add-pay-for c = search needs
 
-enum-known-stop : tie.Need-enum-known-stop Inv-loop μ-loop
-enum-known-stop c = search needs
+pay-for-requires : tie.Need-pay-for-requires
+pay-for-requires c κs = search needs
 
-returns : tie.Need-returns Inv-loop μ-loop
+returns : tie.Need-returns
 returns c =
     let c₁ = c .before in
-    let c₃ = c₁ .before .before in
+    let c₂ = c₁ .before in
+    let c₃ = c₂ .before in
     let c₄ = c₃ .before in
-    let c₅ = c₄ .before in
-    let c₆ = c₅ .before in
-    let a = c₆ .args in
-    above-is (a .thresholds .now) (c₆ .fits .high) (seeking-stops _ _ _ _ _ (c₅ .loop .inv) (bottom-first (a .thresholds .now) (pos 0) (c₄ .loop-test .taken)) (c₃ .charge .ensures) (c₁ .stop .given .1))
+    let h : SFits w32 (getD (c₄ .args .thresholds .now) (c₃ .first-above .result) (pos 0)) = sfits-of (c₁ .pay-for-arg .given) in
+    above-found (c₄ .fits .high) (c₄ .args .thresholds .now) (c₃ .first-above .ensures) (pos 0) (c₂ .if1 .taken) (toZ-ofZ h) (c .pay-for .ensures)
 
-enum-known-now : tie.Need-enum-known-now Inv-loop μ-loop
-enum-known-now c = search needs
+pay-for-requires-2 : tie.Need-pay-for-requires-2
+pay-for-requires-2 c κs = search needs
 
-mul-threshold : tie.Need-mul-threshold Inv-loop μ-loop
-mul-threshold c = search needs
-
-shared-slice-copy-out-threshold : tie.Need-shared-slice-copy-out-threshold Inv-loop μ-loop
-shared-slice-copy-out-threshold c = search needs
-
-returns-2 : tie.Need-returns-2 Inv-loop μ-loop
+returns-2 : tie.Need-returns-2
 returns-2 c =
     let c₁ = c .before in
-    let c₃ = c₁ .before .before in
-    let c₅ = c₃ .before .before in
-    let c₆ = c₅ .before in
-    let c₇ = c₆ .before in
-    let c₈ = c₇ .before in
-    let a = c₈ .args in
-    let h : SFits w32 (getD (a .thresholds .now) (c₇ .loop .i) (pos 0)) = sfits-of (c₁ .threshold .given) in
-    above-is (a .thresholds .now) (c₈ .fits .high) (seeking-hits _ _ _ _ _ (c₇ .loop .inv) (bottom-first (a .thresholds .now) (pos 0) (c₆ .loop-test .taken)) (c₅ .charge .ensures) (c₃ .now .given .1) (toZ-ofZ h) (c .if1 .taken))
-
-add-i : tie.Need-add-i Inv-loop μ-loop
-add-i c = search needs
-
-loop-less : tie.Need-loop-less Inv-loop μ-loop
-loop-less c = search needs
-
-loop-again : tie.Need-loop-again Inv-loop μ-loop
-loop-again c =
-    let c₁ = c .before in
-    let c₃ = c₁ .before .before in
-    let c₅ = c₃ .before .before in
-    let c₆ = c₅ .before in
-    let c₇ = c₆ .before in
-    let c₈ = c₇ .before in
-    let a = c₈ .args in
-    let h : SFits w32 (getD (a .thresholds .now) (c₇ .loop .i) (pos 0)) = sfits-of (c₁ .threshold .given) in
-    seeking-passes _ _ _ _ _ (c₇ .loop .inv) (bottom-first (a .thresholds .now) (pos 0) (c₆ .loop-test .taken)) (c₅ .charge .ensures) (c₃ .now .given .1) (toZ-ofZ h) (c .if1 .left)
-
-returns-3 : tie.Need-returns-3 Inv-loop μ-loop
-returns-3 c = above-is (c .before .before .args .thresholds .now) (c .before .before .fits .high) (seeking-none _ _ _ _ _ (c .before .loop .inv) (drop-of-length-le (c .before .before .args .thresholds .now) (c .loop-test .left)))
+    let c₂ = c₁ .before in
+    let c₃ = c₂ .before in
+    above-none (c₃ .fits .high) (c₃ .args .thresholds .now) (c₂ .first-above .ensures) (c₁ .if1 .left) (c .pay-for2 .ensures)
 
 pub threshold-above-spec : {M : Type 1} → statement M
 threshold-above-spec =
     tie.close
     (tie.spec
-    Inv-loop
-    μ-loop
-    loop-holds
-    charge-requires
-    enum-known-stop
+    first-above-requires
+    mul-pay-for
+    shared-slice-copy-out-pay-for
+    add-pay-for
+    pay-for-requires
     returns
-    enum-known-now
-    mul-threshold
-    shared-slice-copy-out-threshold
-    returns-2
-    add-i
-    loop-less
-    loop-again
-    returns-3)
+    pay-for-requires-2
+    returns-2)
