@@ -1,13 +1,15 @@
 -- What the code of evaluation answers is what the definitions say, over plain variables: one law for each way out.
-use Prim.Native.Nat.{ℕ, _-_, _<_}
+use Prim.Native.Nat.{ℕ, _-_, _≤_, _<_}
 use native.Mathlib.Omega.{arith}
 use native.Mathlib.Nat.{sub-zero}
-use mathlib.Core.Path.{_≡_, refl, sym, ap, _∙_}
-use mathlib.Core.Bool.{Bool, true, false, _&&_, _||_}
-use mathlib.Core.List.{List}
+use mathlib.Core.Path.{_≡_, refl, sym, ap, subst, _∙_}
+use mathlib.Core.Bool.{Bool, true, false, cond, _&&_, _||_}
+use mathlib.Core.List.{List, []}
+use mathlib.Core.Option.{Option, some, none}
 use borrow.Author.Tests.{eq-eqb, ne-eqb}
 use lib.Dec.{eqb}
 use lib.IntN.{pos}
+use lib.ListN.{length}
 use Rattle.integers.specs.Lists.{from}
 use Rattle.limits.specs.declared.Resource.the-variants.{Work}
 use Rattle.limits.specs.declared.Stop.{Stop}
@@ -15,26 +17,30 @@ use Rattle.limits.specs.declared.Charged.{Charged}
 use Rattle.limits.specs.declared.Charged.the-variants.{Paid}
 use Rattle.limits.specs.declared.Charged.the-variants as charged
 use Rattle.limits.specs.Charge.{chargeOf}
-use Rattle.limits.specs.Metered.{Run, going, stopped, Metered, pure, after, _>>=_, _>>_, mapped, through}
+use Rattle.limits.specs.Metered.{Run, going, stopped, Metered, pure, after, _>>=_, _>>_, foldM, mapped, through}
 use Rattle.limits.specs.Meter.{Meter, meter, work, released, holding, dropping}
-use Rattle.limits.proofs.Monad.{bind-stop, bind-on, then-stop, then-on, through-is, pure-is, yes-on, no-on}
-use Rattle.limits.proofs.CodeLaws.{work-paid, work-stopped, drop-on, drop-stop}
+use Rattle.limits.proofs.Monad.{bind-stop, bind-on, then-stop, then-on, pure-is, yes-on, no-on, Holds, Ensures, any-value, by-pure, by-through, bind, then}
+use Rattle.limits.proofs.CodeLaws.{work-paid, work-stopped, hold-on, hold-stop, drop-on, drop-stop}
 use Rattle.interval.specs.declared.Interval.{Interval}
+use Rattle.interval.specs.declared.Bound.{Bound}
+use Rattle.interval.specs.declared.Integrality.{Integrality}
+use Rattle.interval.specs.declared.Integrality.the-variants.{Integer, Mixed}
+use Rattle.interval.specs.Interval.{meetOf}
+use Rattle.interval.specs.Bound.{bottomOf, numericOf, meetBound, sameBound}
 use Rattle.interval.specs.declared.Interval.the-variants.{Bottom, Bounded, Unbounded}
 use Rattle.lattice.specs.declared.Widening.{Widening}
-use Rattle.lattice.specs.declared.Outcome.{Outcome}
 use Rattle.lattice.specs.declared.Outcome.the-variants.{Done, Stopped}
 use Rattle.lattice.specs.declared.Made.{Made}
 use Rattle.lattice.specs.Value.{Value, valueOf, value}
 use Rattle.lattice.specs.Constants.{constantAt}
-use Rattle.lattice.specs.Lattice.{numeric, constant, copied, top}
-use Rattle.lattice.specs.Answers.{ranAs, made, MadeOf, StopsAt, Makes}
+use Rattle.lattice.specs.Lattice.{numeric, constant, copied, top, sift, reduce, source, meetLists, meet, refine}
+use Rattle.lattice.specs.Answers.{made, MadeOf, StopsAt, Makes}
 use Rattle.lattice.proofs.CodeLaws.{said-yes, said-no, said-stop}
 use Rattle.lists.specs.declared.Verdict.{Verdict}
 use Rattle.lists.specs.declared.Verdict.the-variants.{Yes, No}
 use Rattle.lists.specs.declared.Verdict.the-variants as verdict
 use Rattle.lists.specs.Answers.{Answers}
-use Rattle.rows.specs.Row.{idOf, entriesOf, valueAt}
+use Rattle.rows.specs.Row.{idOf, listed?, listOf, entriesOf, valueAt}
 use Rattle.nodes.specs.declared.UnaryOp.{UnaryOp}
 use Rattle.nodes.specs.declared.BinaryOp.{BinaryOp}
 use Rattle.nodes.specs.declared.Expression.{Expression}
@@ -42,17 +48,31 @@ use Rattle.nodes.specs.declared.Expression.the-variants.{Constant as Fixed, Slo
 use Rattle.nodes.specs.Node.{expressionAt}
 use Rattle.nodes.proofs.NodeLaws.{Below}
 use Rattle.nodes.proofs.Descent.{below, descends}
-use Rattle.refinements.specs.Refinement.{Refinement, refinementsOf, restrict}
+use Rattle.rows.specs.declared.Copied.{Copied}
+use Rattle.rows.specs.declared.Copied.the-variants as copying
+use Rattle.rows.specs.Answers.{copiedTo}
+use Rattle.refinements.specs.declared.Noted.{Noted}
+use Rattle.refinements.specs.declared.Noted.the-variants.{At}
+use Rattle.refinements.specs.declared.Noted.the-variants as noted
+use Rattle.refinements.specs.declared.Narrowed.{Narrowed}
+use Rattle.refinements.specs.declared.Narrowed.the-variants as narrowing
+use Rattle.refinements.specs.Refinement.{Refinement, refinementAt, refinementsOf, narrow, restrict, position}
+use Rattle.refinements.specs.Answers.{Places, narrowedTo, Restricts}
+use Rattle.refinements.proofs.CodeLaws.{Numeric, restrict-stops, restrict-found, restrict-ends, restrict-numeric}
+use Rattle.lattice.specs.declared.Reason.{Reason}
 use Rattle.lattice.specs.declared.Reason.the-variants.{Some}
 use Rattle.lattice.specs.declared.Abstract.{Abstract}
 use Rattle.evaluation.specs.declared.Combined.{Combined}
 use Rattle.evaluation.specs.declared.Combined.the-variants.{To}
 use Rattle.evaluation.specs.declared.Combined.the-variants as combination
 use Rattle.evaluation.specs.declared.Pair.{Pair}
+use Rattle.evaluation.specs.declared.Pair.the-variants as pair
+use Rattle.evaluation.specs.declared.Operand.{Operand}
+use Rattle.evaluation.specs.declared.Operand.the-variants as operand
 use Rattle.operators.specs.Arithmetic.{empty?, unaryOf, absoluteOf, binaryOf, difference?}
 use Rattle.operators.specs.Literal.{covered}
-use Rattle.evaluation.specs.Evaluation.{Input, knownNode, knownIn, knownIdentity, identical, combined, afterOne, afterTwo, unknown, evaluateNode, evaluateIn, expression, values, both}
-use Rattle.evaluation.specs.Answers.{combinedTo, Combines, dropped, Follows, paired, Pairs}
+use Rattle.evaluation.specs.Evaluation.{Input, knownNode, knownIn, knownIdentity, identical, combined, afterOne, afterTwo, unknown, evaluateNode, evaluateIn, expression, Values, values, both}
+use Rattle.evaluation.specs.Answers.{combinedTo, Combines, Seen, seenAs, seen, sees, operandTo, SeenOf, numbers, PlainOf, BoundNarrows, dropped, Narrows, OneFollows, TwoFollow, SeenBoth, bothAs, seesBoth, pairTo}
 
 -- ---- `known_identity`: one step down
 
@@ -174,87 +194,157 @@ module _ {c : Metered Stop Meter Interval} {w mw : ℕ} {r : Combined} (h : Comb
   combined-stopped : {s : Stop} {n : ℕ} → r ≡ combination.Stopped s n → stopped s (meter n mw e me) ≡ c (meter w mw e me)
   combined-stopped p = sym (ap (λ (x : Combined). combinedTo x mw e me) p) ∙ h .at e me
 
--- ---- what comes after a value that was made
+-- ---- what is seen of a run
 
-module _ (n : ℕ) (f : Value → Metered Stop Meter Value) {mw : ℕ} (a : Made) where
-  follows-done : {r : Made} → a .outcome ≡ Done → ((me : ℕ) → made r mw me ≡ dropped n (f (valueOf (a .value)) (meter (a .work) mw (a .entries) me))) → Follows n f mw a r
+-- what is seen is a value's
+pub record Sight (x : Run Stop Meter Value) (b : Bound) (n : ℕ) (m : Meter) : Type 0 where
+  pub value : Value
+  pub is : going value m ≡ x
+  pub bound : value .bound ≡ b
+  pub entries : entriesOf value ≡ n
+
+seen-going : (x : Run Stop Meter Value) {b : Bound} {n : ℕ} {m : Meter} → going (seenAs b n) m ≡ sees x → Sight x b n m
+seen-going (going v m′) {b} {n} {m} h =
+    let p : seenAs b n ≡ seen v = cc in
+    let q : m ≡ m′ = cc in
+    record { value = v; is = ap (λ (k : Meter). going v k) q; bound = sym (ap (λ (s : Seen). s .bound) p); entries = sym (ap (λ (s : Seen). s .entries) p) }
+seen-going (stopped s m′) h = let z : _≡_ {A = ℕ} 0 1 = cc in absurd (omega arith)
+
+seen-stopped : (x : Run Stop Meter Value) {s : Stop} {m : Meter} → stopped s m ≡ sees x → stopped s m ≡ x
+seen-stopped (going v m′) h = let z : _≡_ {A = ℕ} 0 1 = cc in absurd (omega arith)
+seen-stopped (stopped s′ m′) {s} {m} h =
+    let p : s ≡ s′ = cc in
+    let q : m ≡ m′ = cc in
+    ap (λ (t : Stop). stopped t m) p ∙ ap (λ (k : Meter). stopped s′ k) q
+
+seen-as : (v : Value) {b : Bound} {n : ℕ} → v .bound ≡ b → entriesOf v ≡ n → seenAs b n ≡ seen v
+seen-as v p q = rw (← p, ← q) refl
+
+module _ {x : Run Stop Meter Value} {mw me : ℕ} {a : Operand} (h : operandTo a mw me ≡ sees x) where
+  pub sight : {b : Bound} {n w e : ℕ} → a ≡ operand.To b n w e → Sight x b n (meter w mw e me)
+  sight p = seen-going x (sym (ap (λ (o : Operand). operandTo o mw me) p) ∙ h)
+
+  pub halted : {s : Stop} {w e : ℕ} → a ≡ operand.Stopped s w e → stopped s (meter w mw e me) ≡ x
+  halted p = seen-stopped x (sym (ap (λ (o : Operand). operandTo o mw me) p) ∙ h)
+
+-- of a value that was made
+module _ (a : Made) where
+  pub seen-halted : {s : Stop} → a .outcome ≡ Stopped s → SeenOf a (operand.Stopped s (a .work) (a .entries))
+  seen-halted p = record { at = λ mw me. rw p }
+
+  pub seen-done : {n : ℕ} → a .outcome ≡ Done → n ≡ entriesOf (valueOf (a .value)) → SeenOf a (operand.To (a .value .bound) n (a .work) (a .entries))
+  seen-done p e = record { at = λ mw me. rw (p, e) }
+
+-- the value of an operand that is numeric
+module _ {a : Operand} {r : Made} where
+  pub plain-stopped : {s : Stop} {w e : ℕ} → a ≡ operand.Stopped s w e → StopsAt s w e r → PlainOf a r
+  plain-stopped p h = record { at = λ mw me. h .at mw me ∙ sym (ap (λ (o : Operand). numbers (operandTo o mw me)) p) }
+
+  pub plain-made : {b : Bound} {n w e : ℕ} → a ≡ operand.To b n w e → MadeOf (numeric (b .interval)) w e r → PlainOf a r
+  plain-made p h = record { at = λ mw me. h .at mw me ∙ sym (ap (λ (o : Operand). numbers (operandTo o mw me)) p) }
+
+-- ---- a node with children, once they are worked out
+
+-- what follows a run that has ended
+module _ (f : Value → Metered Stop Meter Value) {y : Run Stop Meter Value} where
+  after-stop : {s : Stop} {m : Meter} → stopped s m ≡ y → stopped s m ≡ after y f
   unfolding after
-  follows-done p h = record { at = λ me. rw p (h me) }
+  after-stop h = rw (← h)
 
-  follows-stopped : {s : Stop} {r : Made} {left : ℕ} → a .outcome ≡ Stopped s → left ≡ a .entries - n → StopsAt s (a .work) left r → Follows n f mw a r
-  unfolding after mapped
-  follows-stopped p e h = record { at = λ me. h .at mw me ∙ rw (p, e) }
+  after-on : {v : Value} {m : Meter} → going v m ≡ y → f v m ≡ after y f
+  unfolding after
+  after-on h = rw (← h)
 
--- nothing is dropped
-dropped-none : (x : Run Stop Meter Value) → dropped 0 x ≡ x
-unfolding mapped
-dropped-none (going v m) = ap (λ (n : ℕ). going v (meter (m .work) (m .maxWork) n (m .maxEntries))) (sub-zero (m .entries))
-dropped-none (stopped s m) = ap (λ (n : ℕ). stopped s (meter (m .work) (m .maxWork) n (m .maxEntries))) (sub-zero (m .entries))
+numeric-seen : (i : Interval) → seenAs (numericOf i) 0 ≡ seen (numeric i)
+numeric-seen Bottom = refl
+numeric-seen (Bounded low high) = refl
+numeric-seen Unbounded = refl
 
--- of one operand
-module _ (i : Interval) {mw : ℕ} (a : Made) where
-  pub one-stopped : {s : Stop} → a .outcome ≡ Stopped s → Follows 0 (afterOne i) mw a a
-  one-stopped p = follows-stopped 0 (afterOne i) a {left = a .entries} p (sym (sub-zero (a .entries))) (record { at = λ mw me. rw p })
+module _ {known : List Refinement} {id : ℕ} {i : Interval} {w mw : ℕ} {x : Narrowed} (h : Restricts known id i w mw x) (e : ℕ) where
+  pub narrows-stopped : {s : Stop} {n : ℕ} → x ≡ narrowing.Stopped s n → Narrows known id i w mw e (operand.Stopped s n e)
+  narrows-stopped p = record { at = λ constants me. ap sees (sym (ap (λ (y : Narrowed). narrowedTo y mw e me) p) ∙ h .at constants e me) }
 
-  module _ (p : a .outcome ≡ Done) {n left : ℕ} (en : n ≡ entriesOf (valueOf (a .value))) (el : left ≡ a .entries - n) {x : Charged} (c : x ≡ chargeOf Work (a .work) 1 mw) {r : Made} where
-    one-ends : ((me : ℕ) → made r mw me ≡ afterOne i (valueOf (a .value)) (meter (a .work) mw (a .entries) me)) → Follows 0 (afterOne i) mw a r
-    one-ends h = follows-done 0 (afterOne i) a p (λ me. h me ∙ sym (dropped-none (afterOne i (valueOf (a .value)) (meter (a .work) mw (a .entries) me))))
+  pub narrows-to : {j : Interval} {n : ℕ} {b : Bound} → x ≡ narrowing.To j n → b ≡ numericOf j → Narrows known id i w mw e (operand.To b 0 n e)
+  narrows-to {j} {n} p q = record {
+    at = λ constants me.
+        ap (λ (s : Seen). going s (meter n mw e me)) (ap (λ (b : Bound). seenAs b 0) q ∙ numeric-seen j)
+        ∙ ap sees (sym (ap (λ (y : Narrowed). narrowedTo y mw e me) p) ∙ h .at constants e me);
+  }
 
-    pub one-refused : {s : Stop} {k : ℕ} → x ≡ charged.Stopped s k → StopsAt s k left r → Follows 0 (afterOne i) mw a r
-    unfolding afterOne
-    one-refused z h =
-        one-ends
-        (λ me. h .at mw me ∙ rw (el, en) (drop-stop (entriesOf (valueOf (a .value))) (work 1 >> pure (numeric i)) _ (then-stop _ _ _ (work-stopped (a .work) mw (a .entries) me 1 c z))))
+-- where nothing is known
+pub narrows-free : (cells : List ℕ) (id : ℕ) (i : Interval) (w mw e : ℕ) {n : ℕ} {b : Bound} → n ≡ 0 → b ≡ numericOf i → Narrows (refinementsOf cells n) id i w mw e (operand.To b 0 w e)
+unfolding restrict from pure
+narrows-free cells id i w mw e z q = record {
+  at = λ constants me. rw z (ap (λ (s : Seen). going s (meter w mw e me)) (ap (λ (b : Bound). seenAs b 0) q ∙ numeric-seen i));
+}
 
-    pub one-made : {k : ℕ} → x ≡ Paid k → MadeOf (numeric i) k left r → Follows 0 (afterOne i) mw a r
-    unfolding afterOne
-    one-made z h =
-        one-ends
-        (λ me. h .at mw me
-        ∙ rw (el, en) (drop-on (entriesOf (valueOf (a .value))) (work 1 >> pure (numeric i)) _ (then-on _ _ _ (work-paid (a .work) mw (a .entries) me 1 c z) (pure-is _ _))))
+-- one child
+module _ (known : List Refinement) (id : ℕ) (i : Interval) (listed w mw e : ℕ) {left : ℕ} (el : left ≡ e - listed) {x : Charged} (c : x ≡ chargeOf Work w 1 mw) where
+  pub one-refused : {s : Stop} {k : ℕ} → x ≡ charged.Stopped s k → OneFollows known id i listed w mw e (operand.Stopped s k left)
+  unfolding afterOne
+  one-refused z = record {
+    at = λ constants a me p.
+        ap sees
+        (after-stop (restrict constants known id)
+        (rw (el, ← p) (drop-stop (entriesOf a) (work 1 >> pure (numeric i)) (meter w mw e me) (then-stop (work 1) _ (pure (numeric i)) (work-stopped w mw e me 1 c z)))));
+  }
 
--- of two, which are dropped in either order
-dropped-both : (e : ℕ) {n m a b kept live : ℕ} → n ≡ a → kept ≡ e - n → m ≡ b → live ≡ kept - m → live ≡ e - b - a
-dropped-both e p q r s = omega arith
+  pub one-made : {k : ℕ} {r : Operand} → x ≡ Paid k → Narrows known id i k mw left r → OneFollows known id i listed w mw e r
+  unfolding afterOne
+  one-made {k} z h = record {
+    at = λ constants a me p.
+        h .at constants me
+        ∙ ap sees
+        (after-on (restrict constants known id)
+        (rw (el, ← p) (drop-on (entriesOf a) (work 1 >> pure (numeric i)) (meter w mw e me) (then-on (work 1) _ (pure (numeric i)) (work-paid w mw e me 1 c z) (pure-is _ _)))));
+  }
 
-module _ (nodes constants : List ℕ) (op : BinaryOp) (l r : ℕ) (a : Value) where
-  abbrev rest : Value → Metered Stop Meter Value
-  rest b = work 1 >> (combined nodes constants op l r (a .bound .interval) (b .bound .interval) >>= (λ i. pure (numeric i)))
+-- two children
+dropped-both : (e listed more : ℕ) {kept live : ℕ} → kept ≡ e - listed → live ≡ kept - more → live ≡ e - more - listed
+dropped-both e listed more p q = omega arith
 
-  module _ (mw : ℕ) (b : Made) {n kept : ℕ} (en : n ≡ entriesOf a) (ek : kept ≡ b .entries - n) {res : Made} where
-    pub two-stopped : {s : Stop} → b .outcome ≡ Stopped s → StopsAt s (b .work) kept res → Follows (entriesOf a) (afterTwo nodes constants op l r a) mw b res
-    two-stopped p h = follows-stopped (entriesOf a) (afterTwo nodes constants op l r a) b p (ek ∙ ap (λ (k : ℕ). b .entries - k) en) h
+module _ (nodes constants : List ℕ) (known : List Refinement) (id : ℕ) (op : BinaryOp) (l r : ℕ) (x : Interval) (listed : ℕ) (y : Interval) (more w mw e : ℕ)
+    {kept live : ℕ} (ek : kept ≡ e - listed) (el : live ≡ kept - more) where
+  abbrev Follows : Operand → Type 0
+  Follows = TwoFollow nodes constants known id op l r x listed y more w mw e
 
-    module _ (p : b .outcome ≡ Done) {m live : ℕ} (em : m ≡ entriesOf (valueOf (b .value))) (el : live ≡ kept - m) where
-      two-ends : ((me : ℕ) → made res mw me ≡ dropped (entriesOf a) (dropping (entriesOf (valueOf (b .value))) (rest (valueOf (b .value))) (meter (b .work) mw (b .entries) me))) →
-          Follows (entriesOf a) (afterTwo nodes constants op l r a) mw b res
-      unfolding afterTwo
-      two-ends h = follows-done (entriesOf a) (afterTwo nodes constants op l r a) b p h
+  abbrev rest : Metered Stop Meter Value
+  rest = work 1 >> (combined nodes constants op l r x y >>= (λ i. pure (numeric i)))
 
-      two-halts : {s : Stop} {k : ℕ} → StopsAt s k live res → ((me : ℕ) → stopped s (meter k mw (b .entries) me) ≡ rest (valueOf (b .value)) (meter (b .work) mw (b .entries) me)) →
-          Follows (entriesOf a) (afterTwo nodes constants op l r a) mw b res
-      unfolding mapped
-      two-halts h z =
-          two-ends
-          (λ me. h .at mw me ∙ rw (dropped-both (b .entries) en ek em el)
-          (ap (dropped (entriesOf a)) (drop-stop (entriesOf (valueOf (b .value))) (rest (valueOf (b .value))) (meter (b .work) mw (b .entries) me) (z me))))
+  module _ (a b : Value) (pa : a .bound .interval ≡ x) (pb : b .bound .interval ≡ y) (pm : entriesOf b ≡ more) (me : ℕ) where
+    after-two : afterTwo nodes constants op l r a b (meter w mw e me) ≡ dropping more rest (meter w mw e me)
+    unfolding afterTwo
+    after-two = rw (pa, pb, pm)
 
-      module _ {x : Charged} (c : x ≡ chargeOf Work (b .work) 1 mw) where
-        pub two-refused : {s : Stop} {k : ℕ} → x ≡ charged.Stopped s k → StopsAt s k live res → Follows (entriesOf a) (afterTwo nodes constants op l r a) mw b res
-        two-refused z h = two-halts h (λ me. then-stop _ _ _ (work-stopped (b .work) mw (b .entries) me 1 c z))
+    halts : {s : Stop} {k : ℕ} → stopped s (meter k mw e me) ≡ rest (meter w mw e me) →
+        stopped s (meter k mw live me) ≡ after (dropped listed (afterTwo nodes constants op l r a b (meter w mw e me))) (restrict constants known id)
+    unfolding mapped
+    halts h =
+        after-stop (restrict constants known id)
+        (rw (dropped-both e listed more ek el) (ap (dropped listed) (drop-stop more rest (meter w mw e me) h ∙ sym after-two)))
 
-        module _ {k : ℕ} (z : x ≡ Paid k) {y : Combined} (g : Combines (combined nodes constants op l r (a .bound .interval) (valueOf (b .value) .bound .interval)) k mw y) where
-          pub two-halted : {s : Stop} {j : ℕ} → y ≡ combination.Stopped s j → StopsAt s j live res → Follows (entriesOf a) (afterTwo nodes constants op l r a) mw b res
-          two-halted q h = two-halts h (λ me. then-on _ _ _ (work-paid (b .work) mw (b .entries) me 1 c z) (bind-stop _ _ _ (combined-stopped g (b .entries) me q)))
+    goes : (i : Interval) {k : ℕ} → going (numeric i) (meter k mw e me) ≡ rest (meter w mw e me) →
+        restrict constants known id (numeric i) (meter k mw live me) ≡ after (dropped listed (afterTwo nodes constants op l r a b (meter w mw e me))) (restrict constants known id)
+    unfolding mapped
+    goes i h =
+        after-on (restrict constants known id)
+        (rw (dropped-both e listed more ek el) (ap (dropped listed) (drop-on more rest (meter w mw e me) h ∙ sym after-two)))
 
-          pub two-made : {i : Interval} {j : ℕ} → y ≡ To i j → MadeOf (numeric i) j live res → Follows (entriesOf a) (afterTwo nodes constants op l r a) mw b res
-          unfolding mapped
-          two-made q h =
-              two-ends
-              (λ me. h .at mw me ∙ rw (dropped-both (b .entries) en ek em el)
-              (ap (dropped (entriesOf a))
-              (drop-on (entriesOf (valueOf (b .value))) (rest (valueOf (b .value))) (meter (b .work) mw (b .entries) me)
-              (then-on _ _ _ (work-paid (b .work) mw (b .entries) me 1 c z) (bind-on _ _ _ (combined-to g (b .entries) me q) (pure-is _ _))))))
+  module _ {z : Charged} (c : z ≡ chargeOf Work w 1 mw) where
+    pub two-refused : {s : Stop} {k : ℕ} → z ≡ charged.Stopped s k → Follows (operand.Stopped s k live)
+    two-refused q = record { at = λ a b me pa _ pb pm. ap sees (halts a b pa pb pm me (then-stop (work 1) _ _ (work-stopped w mw e me 1 c q))) }
+
+    module _ {k : ℕ} (q : z ≡ Paid k) {d : Combined} (g : Combines (combined nodes constants op l r x y) k mw d) where
+      pub two-halted : {s : Stop} {j : ℕ} → d ≡ combination.Stopped s j → Follows (operand.Stopped s j live)
+      two-halted p = record {
+        at = λ a b me pa _ pb pm. ap sees (halts a b pa pb pm me (then-on (work 1) _ _ (work-paid w mw e me 1 c q) (bind-stop _ _ _ (combined-stopped g e me p))));
+      }
+
+      pub two-made : {i : Interval} {j : ℕ} {res : Operand} → d ≡ To i j → Narrows known id i j mw live res → Follows res
+      two-made {i} p h = record {
+        at = λ a b me pa _ pb pm.
+            h .at constants me ∙ ap sees (goes a b pa pb pm me i (then-on (work 1) _ _ (work-paid w mw e me 1 c q) (bind-on _ _ _ (combined-to g e me p) (pure-is _ _))));
+      }
 
 -- ---- a node that is worked out, and then narrowed
 
@@ -304,8 +394,8 @@ module _ (i : Input) (slots : List ℕ) (known : List Refinement) where
     stepped : step (expression i slots known) id (meter w mw e me) ≡ expression i slots known id (meter w mw e me)
     stepped = sym (ap (λ (c : Metered Stop Meter Value). c (meter w mw e me)) (expression-open id))
 
-    pub expression-stopped : {s : Stop} {n : ℕ} {r : Made} → x ≡ charged.Stopped s n → StopsAt s n e r → made r mw me ≡ expression i slots known id (meter w mw e me)
-    expression-stopped p d = d .at mw me ∙ then-stop _ _ _ (work-stopped w mw e me 1 h p) ∙ stepped
+    pub charge-stopped : {s : Stop} {n : ℕ} → x ≡ charged.Stopped s n → stopped s (meter n mw e me) ≡ expression i slots known id (meter w mw e me)
+    charge-stopped p = then-stop _ _ _ (work-stopped w mw e me 1 h p) ∙ stepped
 
     module _ {n : ℕ} (p : x ≡ Paid n) {y : Expression} (q : y ≡ expressionAt (i .nodes) id) where
       -- by what the node gives
@@ -325,76 +415,310 @@ module _ (i : Input) (slots : List ℕ) (known : List Refinement) where
         pub slot-node : {s : ℕ} {v : Value} → y ≡ Slot s → v ≡ valueAt slots s → made node mw me ≡ copied v (meter n mw e me) → u ≡ expression i slots known id (meter w mw e me)
         slot-node {s} z a m = node-is (Slot s) z (m ∙ ap (λ (v : Value). copied v (meter n mw e me)) a) d
 
-        -- the value of one child
-        module _ (a : Made) (j : ℕ) (child : made a mw me ≡ expression i slots known j (meter n mw e me)) where
-          after-one : (g : Interval → Interval) {b : Interval} → b ≡ g (valueOf (a .value) .bound .interval) → Follows 0 (afterOne b) mw a node →
-              made node mw me ≡ (expression i slots known j >>= (λ v. afterOne (g (v .bound .interval)) v)) (meter n mw e me)
-          unfolding _>>=_ after
-          after-one g {b} q f =
-              f .at me ∙ dropped-none (after (made a mw me) (afterOne b)) ∙ same (a .outcome)
-              ∙ ap (λ (v : Run Stop Meter Value). after v (λ x. afterOne (g (x .bound .interval)) x)) child
-            where
-              same : (o : Outcome) → after (ranAs o (valueOf (a .value)) (meter (a .work) mw (a .entries) me)) (afterOne b)
-                  ≡ after (ranAs o (valueOf (a .value)) (meter (a .work) mw (a .entries) me)) (λ x. afterOne (g (x .bound .interval)) x)
-              same Done = ap (λ (c : Interval). afterOne c (valueOf (a .value)) (meter (a .work) mw (a .entries) me)) q
-              same (Stopped s) = refl
-
-          pub unary-node : {op : UnaryOp} {b : Interval} → y ≡ Unary op j → b ≡ unaryOf op (valueOf (a .value) .bound .interval) → Follows 0 (afterOne b) mw a node → u ≡ expression i slots known id (meter w mw e me)
-          unary-node {op} z b f = node-is (Unary op j) z (after-one (unaryOf op) b f) d
-
-          pub absolute-node : {b : Interval} → y ≡ Absolute j → b ≡ absoluteOf (valueOf (a .value) .bound .interval) → Follows 0 (afterOne b) mw a node → u ≡ expression i slots known id (meter w mw e me)
-          absolute-node z b f = node-is (Absolute j) z (after-one absoluteOf b f) d
-
       pub unknown-node : {t : Bool} {reason : Widening} {v : Value} {u : Run Stop Meter Value} → y ≡ Unknown t reason → v ≡ unknown t reason → u ≡ restrict (i .constants) known id v (meter n mw e me) →
           u ≡ expression i slots known id (meter w mw e me)
       unfolding after
       unknown-node {t} {reason} z a m =
           node-is (Unknown t reason) z (pure-is (unknown t reason) (meter n mw e me)) (m ∙ ap (λ (v : Value). restrict (i .constants) known id v (meter n mw e me)) a)
 
-      -- the values of two children
-      module _ {op : BinaryOp} {l j : ℕ} (z : y ≡ Binary op l j) (a : Made) (left : made a mw me ≡ expression i slots known l (meter n mw e me)) where
-        pub left-stopped : {s : Stop} → a .outcome ≡ Stopped s → made a mw me ≡ expression i slots known id (meter w mw e me)
-        unfolding after
-        left-stopped {s} o =
-            let m : made a mw me ≡ stopped s (meter (a .work) mw (a .entries) me) = rw o in
-            m ∙ node-is (Binary op l j) z (bind-stop _ _ _ (sym m ∙ left)) refl
+      -- ---- as an operand
 
-        pub binary-node : (b node : Made) {u : Run Stop Meter Value} → a .outcome ≡ Done → made b mw me ≡ expression i slots known j (meter (a .work) mw (a .entries) me) →
-            Follows (entriesOf (valueOf (a .value))) (afterTwo (i .nodes) (i .constants) op l j (valueOf (a .value))) mw b node →
-            u ≡ after (made node mw me) (restrict (i .constants) known id) → u ≡ expression i slots known id (meter w mw e me)
-        binary-node b node o right f d =
-            let m : made a mw me ≡ going (valueOf (a .value)) (meter (a .work) mw (a .entries) me) = rw o in
-            let g = afterTwo (i .nodes) (i .constants) op l j (valueOf (a .value)) in
-            node-is (Binary op l j) z
-            (f .at me
-            ∙ bind-on _ _ _ (sym m ∙ left)
-            (through-is _ _ _ _ (expression i slots known j >>= g) (meter (a .work) mw (a .entries) me) (bound-is (expression i slots known j) g (meter (a .work) mw (a .entries) me) right))) d
+      pub seen-node : {f : Made} {r : Operand} → SeenOf f r → made f mw me ≡ expression i slots known id (meter w mw e me) → operandTo r mw me ≡ sees (expression i slots known id (meter w mw e me))
+      seen-node h k = h .at mw me ∙ ap sees k
+
+      pub seen-slot : {s : ℕ} (r : Operand) → y ≡ Slot s → operandTo r mw me ≡ sees (after (copied (valueAt slots s) (meter n mw e me)) (restrict (i .constants) known id)) →
+          operandTo r mw me ≡ sees (expression i slots known id (meter w mw e me))
+      seen-slot {s} r z h = h ∙ ap sees (node-is (Slot s) z refl refl)
+
+      -- with one child: g is what the node makes of its interval
+      module _ (node : Expression) (z : y ≡ node) (j : ℕ) (g : Interval → Interval)
+          (made-of : evaluateNode (expression i slots known) i slots node ≡ (expression i slots known j >>= (λ v. afterOne (g (v .bound .interval)) v)))
+          {a : Operand} (child : operandTo a mw me ≡ sees (expression i slots known j (meter n mw e me))) where
+        one-stopped : {s : Stop} {k live : ℕ} → a ≡ operand.Stopped s k live → stopped s (meter k mw live me) ≡ sees (expression i slots known id (meter w mw e me))
+        one-stopped o =
+            ap sees
+            (node-is node z (bind-stop _ _ _ (halted child o) ∙ sym (ap (λ (m : Metered Stop Meter Value). m (meter n mw e me)) made-of)) (after-stop (restrict (i .constants) known id) refl))
+
+        one-follows : {b : Bound} {size k live : ℕ} {x : Interval} {r : Operand} → a ≡ operand.To b size k live → x ≡ g (b .interval) → OneFollows known id x size k mw live r →
+            operandTo r mw me ≡ sees (expression i slots known id (meter w mw e me))
+        one-follows {b} {size} {k} {live} {x} o q f =
+            let v = sight child o in
+            f .at (i .constants) (v .value) me (v .entries)
+            ∙ ap sees
+            (node-is node z
+            (bind-on (expression i slots known j) (meter n mw e me) (λ u. afterOne (g (u .bound .interval)) u) (v .is)
+            (ap (λ (c : Interval). afterOne c (v .value) (meter k mw live me)) (q ∙ ap (λ (c : Bound). g (c .interval)) (sym (v .bound))))
+            ∙ sym (ap (λ (m : Metered Stop Meter Value). m (meter n mw e me)) made-of)) refl)
+
+      module _ {op : UnaryOp} {j : ℕ} (z : y ≡ Unary op j) {a : Operand} (child : operandTo a mw me ≡ sees (expression i slots known j (meter n mw e me))) where
+        pub unary-stopped : {s : Stop} {k live : ℕ} → a ≡ operand.Stopped s k live → stopped s (meter k mw live me) ≡ sees (expression i slots known id (meter w mw e me))
+        unary-stopped = one-stopped (Unary op j) z j (unaryOf op) refl child
+
+        pub unary-follows : {b : Bound} {size k live : ℕ} {t : Interval} {r : Operand} → a ≡ operand.To b size k live → t ≡ unaryOf op (b .interval) → OneFollows known id t size k mw live r →
+            operandTo r mw me ≡ sees (expression i slots known id (meter w mw e me))
+        unary-follows = one-follows (Unary op j) z j (unaryOf op) refl child
+
+      module _ {j : ℕ} (z : y ≡ Absolute j) {a : Operand} (child : operandTo a mw me ≡ sees (expression i slots known j (meter n mw e me))) where
+        pub absolute-stopped : {s : Stop} {k live : ℕ} → a ≡ operand.Stopped s k live → stopped s (meter k mw live me) ≡ sees (expression i slots known id (meter w mw e me))
+        absolute-stopped = one-stopped (Absolute j) z j absoluteOf refl child
+
+        pub absolute-follows : {b : Bound} {size k live : ℕ} {t : Interval} {r : Operand} → a ≡ operand.To b size k live → t ≡ absoluteOf (b .interval) → OneFollows known id t size k mw live r →
+            operandTo r mw me ≡ sees (expression i slots known id (meter w mw e me))
+        absolute-follows = one-follows (Absolute j) z j absoluteOf refl child
+
+      -- with two
+      module _ {op : BinaryOp} {l j : ℕ} (z : y ≡ Binary op l j) {a : Operand} (left : operandTo a mw me ≡ sees (expression i slots known l (meter n mw e me))) where
+        pub left-stopped : {s : Stop} {k live : ℕ} → a ≡ operand.Stopped s k live → stopped s (meter k mw live me) ≡ sees (expression i slots known id (meter w mw e me))
+        left-stopped o = ap sees (node-is (Binary op l j) z (bind-stop _ _ _ (halted left o)) (after-stop (restrict (i .constants) known id) refl))
+
+        module _ {u : Bound} {size k live : ℕ} (o : a ≡ operand.To u size k live) where
+          first : Sight (expression i slots known l (meter n mw e me)) u size (meter k mw live me)
+          first = sight left o
+
+          abbrev second : Value → Metered Stop Meter Value
+          second = afterTwo (i .nodes) (i .constants) op l j (first .value)
+
+          -- what the right child gives, and then the first is dropped
+          binary-is : {t : Run Stop Meter Value} → t ≡ (expression i slots known j >>= second) (meter k mw live me) →
+              dropped size t ≡ evaluateNode (expression i slots known) i slots (Binary op l j) (meter n mw e me)
+          unfolding through
+          binary-is h =
+              bind-on (expression i slots known l) (meter n mw e me) (λ v. dropping (entriesOf v) (expression i slots known j >>= afterTwo (i .nodes) (i .constants) op l j v)) (first .is)
+              (rw (first .entries) (ap (dropped size) h))
+
+          module _ {b : Operand} (right : operandTo b mw me ≡ sees (expression i slots known j (meter k mw live me))) where
+            pub right-halted : {s : Stop} {k′ live′ rest : ℕ} → b ≡ operand.Stopped s k′ live′ → rest ≡ live′ - size → stopped s (meter k′ mw rest me) ≡ sees (expression i slots known id (meter w mw e me))
+            unfolding mapped
+            right-halted o′ r =
+                rw r
+                (ap sees (node-is (Binary op l j) z (binary-is (bind-stop (expression i slots known j) (meter k mw live me) second (halted right o′))) (after-stop (restrict (i .constants) known id) refl)))
+
+            pub two-follow : {y′ : Bound} {size′ k′ live′ : ℕ} {r : Operand} → b ≡ operand.To y′ size′ k′ live′ →
+                TwoFollow (i .nodes) (i .constants) known id op l j (u .interval) size (y′ .interval) size′ k′ mw live′ r → operandTo r mw me ≡ sees (expression i slots known id (meter w mw e me))
+            two-follow o′ f =
+                let v = sight right o′ in
+                f .at (first .value) (v .value) me (ap (λ (c : Bound). c .interval) (first .bound)) (first .entries) (ap (λ (c : Bound). c .interval) (v .bound)) (v .entries)
+                ∙ ap sees (node-is (Binary op l j) z (binary-is (bind-on (expression i slots known j) (meter k mw live me) second (v .is) refl)) refl)
+
+  -- ---- the value of a node with children is numeric
+
+  numbers-seen : (x : Run Stop Meter Value) → Holds Numeric x → numbers (sees x) ≡ x
+  numbers-seen (going v m) h = ap (λ (u : Value). going u m) (ap (λ (u : Value). numeric (u .bound .interval)) (h .1) ∙ itself (h .0) ∙ sym (h .1))
+    where
+      itself : (i : Interval) → numeric (numeric i .bound .interval) ≡ numeric i
+      itself Bottom = refl
+      itself (Bounded low high) = refl
+      itself Unbounded = refl
+  numbers-seen (stopped s m) h = refl
+
+  -- an expression with children
+  abbrev pub Parent : Expression → Type 0
+  Parent (Fixed k) = ⊥
+  Parent (Slot s) = ⊥
+  Parent (Unary op j) = Unit {0}
+  Parent (Absolute j) = Unit {0}
+  Parent (Binary op l r) = Unit {0}
+  Parent (Unknown t reason) = ⊥
+
+  one-numeric : (x : Interval) (a : Value) → Ensures Numeric (afterOne x a)
+  unfolding afterOne
+  one-numeric x a = by-through Numeric _ _ _ _ (then (work 1) (by-pure (numeric x) (x, refl)))
+
+  two-numeric : (op : BinaryOp) (l r : ℕ) (a b : Value) → Ensures Numeric (afterTwo (i .nodes) (i .constants) op l r a b)
+  unfolding afterTwo
+  two-numeric op l r a b = by-through Numeric _ _ _ _ (then (work 1) (bind (any-value _) (λ x _. by-pure (numeric x) (x, refl))))
+
+  parent-numeric : (node : Expression) → Parent node → Ensures Numeric (evaluateNode (expression i slots known) i slots node)
+  parent-numeric (Fixed k) p = absurd p
+  parent-numeric (Slot s) p = absurd p
+  parent-numeric (Unary op j) p = bind (any-value _) (λ v _. one-numeric _ v)
+  parent-numeric (Absolute j) p = bind (any-value _) (λ v _. one-numeric _ v)
+  parent-numeric (Binary op l r) p = bind (any-value _) (λ v _. by-through Numeric _ _ _ _ (bind (any-value _) (λ u _. two-numeric op l r v u)))
+  parent-numeric (Unknown t reason) p = absurd p
+
+  pub plain-node : (id w mw e me : ℕ) {y node : Expression} → y ≡ expressionAt (i .nodes) id → y ≡ node → Parent node → {a : Operand} {r : Made} →
+      operandTo a mw me ≡ sees (expression i slots known id (meter w mw e me)) → PlainOf a r → made r mw me ≡ expression i slots known id (meter w mw e me)
+  plain-node id w mw e me {y} {node} q z p h f =
+      f .at mw me ∙ ap numbers h
+      ∙ numbers-seen (expression i slots known id (meter w mw e me))
+      (subst (λ (m : Metered Stop Meter Value). Ensures Numeric m) (sym (expression-open id))
+      (then (work 1)
+      (bind (subst (λ (x : Expression). Ensures Numeric (evaluateNode (expression i slots known) i slots x)) (sym z ∙ q) (parent-numeric node p))
+      (λ v n. restrict-numeric (i .constants) known id v n)))
+      .at (meter w mw e me))
 
   -- ---- two expressions
 
-  module _ (l r w mw e me : ℕ) (a : Made) (h : made a mw me ≡ expression i slots known l (meter w mw e me)) where
-    pub first-stopped : {s : Stop} → a .outcome ≡ Stopped s → stopped s (meter (a .work) mw (a .entries) me) ≡ both i slots known l r (meter w mw e me)
+  module _ (l r w mw e me : ℕ) {a : Operand} (h : operandTo a mw me ≡ sees (expression i slots known l (meter w mw e me))) where
+    pub first-stopped : {s : Stop} {k live : ℕ} → a ≡ operand.Stopped s k live → stopped s (meter k mw live me) ≡ seesBoth (both i slots known l r (meter w mw e me))
     unfolding both
-    first-stopped o = bind-stop _ _ _ (rw o at h)
+    first-stopped o = ap seesBoth (bind-stop _ _ _ (halted h o))
 
-    pub both-made : (b : Made) (x : Pair) → a .outcome ≡ Done → made b mw me ≡ expression i slots known r (meter (a .work) mw (a .entries) me) → Pairs (valueOf (a .value)) b x →
-        paired x mw me ≡ both i slots known l r (meter w mw e me)
-    unfolding both _>>=_ through
-    both-made b x o g p =
-        let m : made a mw me ≡ going (valueOf (a .value)) (meter (a .work) mw (a .entries) me) = rw o in
-        p .at mw me
-        ∙ ap (λ (v : Run Stop Meter Value). after (mapped (λ t. t) (released (entriesOf (valueOf (a .value)))) (λ s. s) v) (λ v. pure (values (valueOf (a .value)) v))) g
-        ∙ bind-on (expression i slots known l) (meter w mw e me) (λ a. holding (entriesOf a) (expression i slots known r) >>= (λ b. pure (values a b))) (sym m ∙ h) refl
+    module _ {x : Bound} {n k live : ℕ} (o : a ≡ operand.To x n k live) {b : Operand} (g : operandTo b mw me ≡ sees (expression i slots known r (meter k mw live me))) where
+      pub second-stopped : {s : Stop} {k′ live′ rest : ℕ} → b ≡ operand.Stopped s k′ live′ → rest ≡ live′ - n → stopped s (meter k′ mw rest me) ≡ seesBoth (both i slots known l r (meter w mw e me))
+      unfolding both
+      second-stopped {s} {k′} {live′} o′ q =
+          let v : Sight (expression i slots known l (meter w mw e me)) x n (meter k mw live me) = sight h o in
+          rw q
+          (ap seesBoth
+          (bind-on _ _ _ (v .is)
+          (bind-stop _ _ _ (ap (λ (z : ℕ). stopped s (meter k′ mw (live′ - z) me)) (sym (v .entries)) ∙ hold-stop (entriesOf (v .value)) (expression i slots known r) (meter k mw live me) (halted g o′)))))
 
--- the second beside the first
-module _ (a : Value) (b : Made) where
-  pub pair-stopped : {s : Stop} (x : Pair) {n left : ℕ} → b .outcome ≡ Stopped s → n ≡ entriesOf a → left ≡ b .entries - n → ((mw me : ℕ) → paired x mw me ≡ stopped s (meter (b .work) mw left me)) → Pairs a b x
-  unfolding after mapped
-  pair-stopped x o en el h = record { at = λ mw me. h mw me ∙ rw (o, el, en) }
+      pub both-seen : {y : Bound} {m k′ live′ : ℕ} → b ≡ operand.To y m k′ live′ →
+          going (bothAs (seenAs x n) (seenAs y m)) (meter k′ mw live′ me) ≡ seesBoth (both i slots known l r (meter w mw e me))
+      unfolding both
+      both-seen {y} {m} {k′} {live′} o′ =
+          let v : Sight (expression i slots known l (meter w mw e me)) x n (meter k mw live me) = sight h o in
+          let u : Sight (expression i slots known r (meter k mw live me)) y m (meter k′ mw live′ me) = sight g o′ in
+          ap (λ (a : Seen). going (bothAs a (seenAs y m)) (meter k′ mw live′ me)) (seen-as (v .value) (v .bound) (v .entries))
+          ∙ ap (λ (b : Seen). going (bothAs (seen (v .value)) b) (meter k′ mw live′ me)) (seen-as (u .value) (u .bound) (u .entries))
+          ∙ ap seesBoth
+          (bind-on (expression i slots known l) (meter w mw e me) (λ a. holding (entriesOf a) (expression i slots known r) >>= (λ b. pure (values a b))) (v .is)
+          (bind-on (holding (entriesOf (v .value)) (expression i slots known r)) (meter k mw live me) (λ b. pure (values (v .value) b))
+          (hold-on (entriesOf (v .value)) (expression i slots known r) (meter k mw live me) (u .is)) (pure-is _ _)))
 
-  pub pair-made : (x : Pair) → b .outcome ≡ Done → ((mw me : ℕ) → paired x mw me ≡ going (values a (valueOf (b .value))) (meter (b .work) mw (b .entries) me)) → Pairs a b x
-  unfolding after mapped
-  pair-made x o h = record { at = λ mw me. h mw me ∙ rw o (pure-is _ _) }
+-- ---- what is seen of two
+
+pub record Sights (x : Run Stop Meter Values) (a : Bound) (n : ℕ) (b : Bound) (k : ℕ) (m : Meter) : Type 0 where
+  pub pair : Values
+  pub is : going pair m ≡ x
+  pub first-bound : pair .first .bound ≡ a
+  pub first-entries : entriesOf (pair .first) ≡ n
+  pub second-bound : pair .second .bound ≡ b
+  pub second-entries : entriesOf (pair .second) ≡ k
+
+both-going : (x : Run Stop Meter Values) {a : Bound} {n : ℕ} {b : Bound} {k : ℕ} {m : Meter} → going (bothAs (seenAs a n) (seenAs b k)) m ≡ seesBoth x → Sights x a n b k m
+both-going (going v m′) {a} {n} {b} {k} {m} h =
+    let p : bothAs (seenAs a n) (seenAs b k) ≡ bothAs (seen (v .first)) (seen (v .second)) = cc in
+    let q : m ≡ m′ = cc in
+    record {
+      pair = v;
+      is = ap (λ (t : Meter). going v t) q;
+      first-bound = sym (ap (λ (s : SeenBoth). s .first .bound) p);
+      first-entries = sym (ap (λ (s : SeenBoth). s .first .entries) p);
+      second-bound = sym (ap (λ (s : SeenBoth). s .second .bound) p);
+      second-entries = sym (ap (λ (s : SeenBoth). s .second .entries) p);
+    }
+both-going (stopped s m′) h = let z : _≡_ {A = ℕ} 0 1 = cc in absurd (omega arith)
+
+both-stopped : (x : Run Stop Meter Values) {s : Stop} {m : Meter} → stopped s m ≡ seesBoth x → stopped s m ≡ x
+both-stopped (going v m′) h = let z : _≡_ {A = ℕ} 0 1 = cc in absurd (omega arith)
+both-stopped (stopped s′ m′) {s} {m} h =
+    let p : s ≡ s′ = cc in
+    let q : m ≡ m′ = cc in
+    ap (λ (t : Stop). stopped t m) p ∙ ap (λ (k : Meter). stopped s′ k) q
+
+module _ {x : Run Stop Meter Values} {mw me : ℕ} {p : Pair} (h : pairTo p mw me ≡ seesBoth x) where
+  pub sights : {a : Bound} {n : ℕ} {b : Bound} {k w e : ℕ} → p ≡ pair.To a n b k w e → Sights x a n b k (meter w mw e me)
+  sights q = both-going x (sym (ap (λ (o : Pair). pairTo o mw me) q) ∙ h)
+
+  pub pair-halted : {s : Stop} {w e : ℕ} → p ≡ pair.Stopped s w e → stopped s (meter w mw e me) ≡ x
+  pair-halted q = both-stopped x (sym (ap (λ (o : Pair). pairTo o mw me) q) ∙ h)
+
+-- ---- a value without a list that is narrowed
+
+undropped : (c : Metered Stop Meter Value) (m : Meter) → dropping 0 c m ≡ c m
+unfolding through mapped
+undropped c m = go (c m)
+  where
+    go : (x : Run Stop Meter Value) → mapped (released 0) (released 0) (λ e. e) x ≡ x
+    go (going v m) = ap (λ (n : ℕ). going v (meter (m .work) (m .maxWork) n (m .maxEntries))) (sub-zero (m .entries))
+    go (stopped s m) = ap (λ (n : ℕ). stopped s (meter (m .work) (m .maxWork) n (m .maxEntries))) (sub-zero (m .entries))
+
+-- what it has in common with an interval
+abbrev common : List ℕ → Bound → Reason → Interval → Metered Stop Meter Value
+common constants b reason i = meetLists (value b none reason) (numeric i) (meetBound b (numeric i .bound)) constants (source none (numeric i .values))
+
+met-empty : (b : Bound) → meetBound (meetBound b bottomOf) bottomOf ≡ meetBound b bottomOf
+unfolding meetOf
+met-empty b = go (b .integrality) (b .interval)
+  where
+    go : (g : Integrality) (x : Interval) → meetBound (meetBound (record { integrality = g; interval = x }) bottomOf) bottomOf ≡ meetBound (record { integrality = g; interval = x }) bottomOf
+    go Integer Bottom = refl
+    go Integer (Bounded low high) = refl
+    go Integer Unbounded = refl
+    go Mixed Bottom = refl
+    go Mixed (Bounded low high) = refl
+    go Mixed Unbounded = refl
+
+no-entries : (t : Bool) → length (listOf (cond t (some []) none)) ≡ 0
+no-entries true = refl
+no-entries false = refl
+
+common-seen : (constants : List ℕ) (b : Bound) (reason : Reason) (i : Interval) (m : Meter) → going (seenAs (meetBound b (numericOf i)) 0) m ≡ sees (common constants b reason i m)
+unfolding sift reduce foldM _>>=_ after pure
+common-seen constants b reason Bottom m = ap (λ (c : Bound). going (seenAs c 0) m) (sym (met-empty b))
+common-seen constants b reason (Bounded low high) m =
+    ap (λ (n : ℕ). going (seenAs (meetBound b (numericOf (Bounded low high))) n) m) (sym (no-entries (sameBound (meetBound b (numericOf (Bounded low high))) bottomOf)))
+common-seen constants b reason Unbounded m =
+    ap (λ (n : ℕ). going (seenAs (meetBound b (numericOf Unbounded)) n) m) (sym (no-entries (sameBound (meetBound b (numericOf Unbounded)) bottomOf)))
+
+module _ (b : Bound) (i : Interval) (w mw e : ℕ) where
+  pub bound-mixed : b .integrality ≡ Mixed → BoundNarrows b i w mw e (operand.To b 0 w e)
+  unfolding pure
+  bound-mixed p = record { at = λ constants reason me. rw p }
+
+  module _ (p : b .integrality ≡ Integer) {x : Charged} (c : x ≡ chargeOf Work w 1 mw) where
+    narrow-is : (constants : List ℕ) (reason : Reason) (me : ℕ) → (work 1 >> common constants b reason i) (meter w mw e me) ≡ narrow constants i (value b none reason) (meter w mw e me)
+    unfolding refine meet
+    narrow-is constants reason me = sym (undropped (refine constants (value b none reason) i) (meter w mw e me)) ∙ rw p
+
+    pub bound-refused : {s : Stop} {n : ℕ} → x ≡ charged.Stopped s n → BoundNarrows b i w mw e (operand.Stopped s n e)
+    bound-refused q = record { at = λ constants reason me. ap sees (then-stop (work 1) _ _ (work-stopped w mw e me 1 c q) ∙ narrow-is constants reason me) }
+
+    pub bound-met : {n : ℕ} {j d : Bound} → x ≡ Paid n → j ≡ numericOf i → d ≡ meetBound b j → BoundNarrows b i w mw e (operand.To d 0 n e)
+    bound-met {n} q ej ed = record {
+      at = λ constants reason me.
+          ap (λ (c : Bound). going (seenAs c 0) (meter n mw e me)) (ed ∙ ap (meetBound b) ej)
+          ∙ common-seen constants b reason i (meter n mw e me)
+          ∙ ap sees (then-on (work 1) _ _ (work-paid w mw e me 1 c q) refl ∙ narrow-is constants reason me);
+    }
+
+-- of a slot
+module _ (constants : List ℕ) (i : Interval) (v : Value) (w mw e me : ℕ) where
+  pub listed-narrowed : {u : Value} {y : Made} {r : Operand} → u ≡ v → made y mw me ≡ narrow constants i u (meter w mw e me) → SeenOf y r →
+      operandTo r mw me ≡ sees (narrow constants i v (meter w mw e me))
+  listed-narrowed eu m s = s .at mw me ∙ ap sees (m ∙ ap (λ (u : Value). narrow constants i u (meter w mw e me)) eu)
+
+  pub unlisted-narrowed : {t : Bool} {b : Bound} {r : Operand} → t ≡ listed? (v .values) → t ≡ false → b ≡ v .bound → BoundNarrows b i w mw e r →
+      operandTo r mw me ≡ sees (narrow constants i v (meter w mw e me))
+  unlisted-narrowed {b} et f eb h =
+      h .at constants (v .widening) me
+      ∙ ap (λ (c : Bound). sees (narrow constants i (value c none (v .widening)) (meter w mw e me))) eb
+      ∙ ap (λ (o : Option (List ℕ)). sees (narrow constants i (value (v .bound) o (v .widening)) (meter w mw e me))) (sym (unlisted (v .values) (sym et ∙ f)))
+    where
+      unlisted : (o : Option (List ℕ)) → listed? o ≡ false → o ≡ none
+      unlisted none h = refl
+      unlisted (some l) h = let z : _≡_ {A = ℕ} 0 1 = cc in absurd (omega arith)
+
+-- ---- a slot as an operand
+
+module _ (constants : List ℕ) (cells : List ℕ) (count id : ℕ) (v : Value) (w mw e me : ℕ) where
+  abbrev whole : Run Stop Meter Value
+  whole = after (copied v (meter w mw e me)) (restrict constants (refinementsOf cells count) id)
+
+module _ (constants : List ℕ) (cells : List ℕ) (count id : ℕ) (v : Value) (w mw e me : ℕ) (x : Copied) (h : copiedTo x v mw me ≡ copied v (meter w mw e me)) where
+  pub copy-stopped : {s : Stop} {k live : ℕ} → x ≡ copying.Stopped s k live → stopped s (meter k mw live me) ≡ sees (whole constants cells count id v w mw e me)
+  copy-stopped p = ap sees (after-stop (restrict constants (refinementsOf cells count) id) (sym (ap (λ (y : Copied). copiedTo y v mw me) p) ∙ h))
+
+  module _ {k live : ℕ} (p : x ≡ copying.To k live) where
+    copy-made : restrict constants (refinementsOf cells count) id v (meter k mw live me) ≡ whole constants cells count id v w mw e me
+    copy-made = after-on (restrict constants (refinementsOf cells count) id) (sym (ap (λ (y : Copied). copiedTo y v mw me) p) ∙ h)
+
+    module _ {z : Noted} (g : Places (position 0 (refinementsOf cells count) id) k mw z) where
+      pub search-stopped : {s : Stop} {n held rest : ℕ} → z ≡ noted.Stopped s n → held ≡ entriesOf v → rest ≡ live - held → stopped s (meter n mw rest me) ≡ sees (whole constants cells count id v w mw e me)
+      search-stopped q eh er = ap sees (restrict-stops constants (refinementAt cells) id v count k mw live me g q eh er ∙ copy-made)
+
+      module _ {place n : ℕ} (q : z ≡ At place n) where
+        pub slot-seen : {b : Bound} {held : ℕ} → count ≤ place → b ≡ v .bound → held ≡ entriesOf v → going (seenAs b held) (meter n mw live me) ≡ sees (whole constants cells count id v w mw e me)
+        slot-seen l eb eh = rw (eb, eh) (ap sees (restrict-ends constants (refinementAt cells) id v count k mw live me g q l ∙ copy-made))
+
+        pub slot-narrowed : {j : Interval} (r : Operand) → place < count → j ≡ refinementAt cells place .restriction →
+            operandTo r mw me ≡ sees (narrow constants j v (meter n mw live me)) → operandTo r mw me ≡ sees (whole constants cells count id v w mw e me)
+        slot-narrowed {j} r l ej m =
+            m
+            ∙ ap sees
+            (restrict-found constants (refinementAt cells) id v count k mw live me g q l ej refl ∙ copy-made)
 
 -- ---- what nothing is known of
 

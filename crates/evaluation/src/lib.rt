@@ -1,6 +1,9 @@
 //! The value of an expression over the values of a rule's slots (`expression` and `known_identity` of transfer.rs). Expressions
 //! are worked out by recursion over their table: the node's id falls. Every value that is made on the way is released by name.
+//! Inside an expression values are handed on as operands: no operator asks for more than a bound and the length of a list.
+use interval::Bound;
 use interval::Constant;
+use interval::Integrality;
 use interval::Interval;
 use lattice::Abstract;
 use lattice::Made;
@@ -13,18 +16,21 @@ use limits::Stop;
 use lists::Verdict;
 use nodes::BinaryOp;
 use nodes::Expression;
+use refinements::Narrowed;
+use refinements::Noted;
+use rows::Copied;
 ghost use mathlib.Core.Path.{_≡_};
 ghost use Rattle.limits.specs.Metered.{after};
 ghost use Rattle.limits.specs.Meter.{meter};
 ghost use Rattle.lists.specs.Answers.{Answers};
 ghost use Rattle.lattice.specs.Value.{valueOf};
 ghost use Rattle.lattice.specs.Constants.{constantAt};
-ghost use Rattle.lattice.specs.Lattice.{constant, numeric};
+ghost use Rattle.lattice.specs.Lattice.{constant, numeric, copied};
 ghost use Rattle.lattice.specs.Answers.{made, MadeOf, StopsAt, Makes};
-ghost use Rattle.rows.specs.Row.{idOf, entriesOf};
-ghost use Rattle.refinements.specs.Refinement.{refinementsOf, restrict};
-ghost use Rattle.evaluation.specs.Evaluation.{input, knownIdentity, identical, combined, afterOne, afterTwo, unknown, expression, both};
-ghost use Rattle.evaluation.specs.Answers.{Combines, Follows, Pairs, paired};
+ghost use Rattle.rows.specs.Row.{idOf, valueAt};
+ghost use Rattle.refinements.specs.Refinement.{refinementsOf, narrow, restrict};
+ghost use Rattle.evaluation.specs.Evaluation.{input, knownIdentity, identical, combined, unknown, expression, both};
+ghost use Rattle.evaluation.specs.Answers.{Combines, operandTo, sees, SeenOf, PlainOf, Narrows, BoundNarrows, OneFollows, TwoFollow, pairTo, seesBoth};
 
 // An interval with the work after it.
 pub enum Combined {
@@ -32,13 +38,16 @@ pub enum Combined {
     Stopped(Stop, u64),
 }
 
-// Two values with the counts after them. Where the outcome is a stop there are none, and the fields mean nothing.
-pub struct Pair {
-    pub outcome: Outcome,
-    pub first: Abstract,
-    pub second: Abstract,
-    pub work: u64,
-    pub entries: u64,
+// What is asked of a value that is an operand: its bound, and how many entries its list has. Behind them the counts: work and live entries.
+pub enum Operand {
+    To(Bound, u64, u64, u64),
+    Stopped(Stop, u64, u64),
+}
+
+// Two operands, with the counts behind them.
+pub enum Pair {
+    To(Bound, u64, Bound, u64, u64, u64),
+    Stopped(Stop, u64, u64),
 }
 
 // Whether an expression holds no Unknown, and so has one value in a firing. The right child comes first.
@@ -138,69 +147,6 @@ fn stopped_at(stop: Stop, work: u64, entries: u64) -> Made
     }
 }
 
-// A node with one child, which is dropped on every way out.
-fn after_one(a: Made, interval: Interval, max_work: u64) -> Made
-    ensures { λ r. ⌜ Follows 0 (afterOne interval) «max_work» a r ⌝ }
-{
-    let outcome = a.outcome;
-    let value = a.value;
-    match outcome {
-        Outcome::Stopped(_) => a,
-        Outcome::Done => {
-            let left = limits::release(a.entries, rows::entries_of(value));
-            match limits::charge(Resource::Work, a.work, 1, max_work) {
-                Charged::Stopped(stop, now) => stopped_at(stop, now, left),
-                Charged::Paid(now) => made_of(interval, now, left),
-            }
-        }
-    }
-}
-
-// A node with two children. Both are dropped on every way out.
-fn after_two(
-    nodes: &[u64],
-    constants: &[u32],
-    op: BinaryOp,
-    left: u64,
-    right: u64,
-    a: Abstract,
-    b: Made,
-    max_work: u64,
-) -> Made
-    ensures { λ r. ⌜ Follows (entriesOf (valueOf a)) (afterTwo (now (nodes .entry)) (now (constants .entry)) op left right (valueOf a)) «max_work» b r ⌝ }
-{
-    let outcome = b.outcome;
-    let value = b.value;
-    let kept = limits::release(b.entries, rows::entries_of(a));
-    match outcome {
-        Outcome::Stopped(stop) => stopped_at(stop, b.work, kept),
-        Outcome::Done => {
-            let left_bound = a.bound;
-            let x = left_bound.interval;
-            let right_bound = value.bound;
-            let y = right_bound.interval;
-            let live = limits::release(kept, rows::entries_of(value));
-            match limits::charge(Resource::Work, b.work, 1, max_work) {
-                Charged::Stopped(stop, now) => stopped_at(stop, now, live),
-                Charged::Paid(now) => match combine(
-                    nodes,
-                    constants,
-                    op,
-                    left,
-                    right,
-                    x,
-                    y,
-                    now,
-                    max_work,
-                ) {
-                    Combined::Stopped(stop, spent) => stopped_at(stop, spent, live),
-                    Combined::To(interval, spent) => made_of(interval, spent, live),
-                },
-            }
-        }
-    }
-}
-
 // Whatever may come of an expression that nothing is known of.
 fn unknown(integer: bool, reason: Widening) -> Abstract
     ensures { λ r. ⌜ valueOf r ≡ unknown integer reason ⌝ }
@@ -268,7 +214,358 @@ fn finish(
     }
 }
 
-// The value of an expression, over the slots' values and under the first `count` refinements. The left child comes first.
+// A value as an operand.
+fn operand_of(node: Made) -> Operand
+    ensures { λ r. ⌜ SeenOf node r ⌝ }
+{
+    let outcome = node.outcome;
+    let value = node.value;
+    let bound = value.bound;
+    match outcome {
+        Outcome::Stopped(stop) => Operand::Stopped(stop, node.work, node.entries),
+        Outcome::Done => Operand::To(bound, rows::entries_of(value), node.work, node.entries),
+    }
+}
+
+// The value of an operand that is numeric.
+fn plain(a: Operand) -> Made
+    ensures { λ r. ⌜ PlainOf a r ⌝ }
+{
+    match a {
+        Operand::Stopped(stop, work, entries) => stopped_at(stop, work, entries),
+        Operand::To(bound, _, work, entries) => {
+            let interval = bound.interval;
+            made_of(interval, work, entries)
+        }
+    }
+}
+
+// What is known of an expression with children narrows its interval: it has no list.
+fn narrowed(
+    interval: Interval,
+    refinements: &[u32],
+    count: usize,
+    id: u64,
+    work: u64,
+    max_work: u64,
+    entries: u64,
+) -> Operand
+    ensures { λ r. ⌜ Narrows (refinementsOf (now (refinements .entry)) count) id interval work «max_work» entries r ⌝ }
+{
+    match refinements::restrict_interval(interval, refinements, count, id, work, max_work) {
+        Narrowed::Stopped(stop, now) => Operand::Stopped(stop, now, entries),
+        Narrowed::To(narrow, now) => Operand::To(Bound::numeric(narrow), 0, now, entries),
+    }
+}
+
+// A node with one child that had `listed` entries, which are dropped on every way out.
+fn after_one(
+    interval: Interval,
+    listed: u64,
+    refinements: &[u32],
+    count: usize,
+    id: u64,
+    work: u64,
+    max_work: u64,
+    entries: u64,
+) -> Operand
+    ensures { λ r. ⌜ OneFollows (refinementsOf (now (refinements .entry)) count) id interval listed work «max_work» entries r ⌝ }
+{
+    let left = limits::release(entries, listed);
+    match limits::charge(Resource::Work, work, 1, max_work) {
+        Charged::Stopped(stop, now) => Operand::Stopped(stop, now, left),
+        Charged::Paid(now) => narrowed(interval, refinements, count, id, now, max_work, left),
+    }
+}
+
+// A node with two children: the first had `listed` entries and the second `more`. Both are dropped on every way out.
+fn after_two(
+    nodes: &[u64],
+    constants: &[u32],
+    op: BinaryOp,
+    left: u64,
+    right: u64,
+    x: Interval,
+    listed: u64,
+    y: Interval,
+    more: u64,
+    refinements: &[u32],
+    count: usize,
+    id: u64,
+    work: u64,
+    max_work: u64,
+    entries: u64,
+) -> Operand
+    ensures { λ r. ⌜ TwoFollow (now (nodes .entry)) (now (constants .entry)) (refinementsOf (now (refinements .entry)) count) id op left right x listed y more work «max_work» entries r ⌝ }
+{
+    let kept = limits::release(entries, listed);
+    let live = limits::release(kept, more);
+    match limits::charge(Resource::Work, work, 1, max_work) {
+        Charged::Stopped(stop, now) => Operand::Stopped(stop, now, live),
+        Charged::Paid(now) => {
+            match combine(nodes, constants, op, left, right, x, y, now, max_work) {
+                Combined::Stopped(stop, spent) => Operand::Stopped(stop, spent, live),
+                Combined::To(interval, spent) => {
+                    // Most expressions are not narrowed, and are then not handed on.
+                    if count == 0 {
+                        return Operand::To(Bound::numeric(interval), 0, spent, live);
+                    }
+                    narrowed(interval, refinements, count, id, spent, max_work, live)
+                }
+            }
+        }
+    }
+}
+
+// A value without a list that is narrowed: its bound is all that changes.
+fn narrow_bound(
+    bound: Bound,
+    restriction: Interval,
+    work: u64,
+    max_work: u64,
+    entries: u64,
+) -> Operand
+    ensures { λ r. ⌜ BoundNarrows bound restriction work «max_work» entries r ⌝ }
+{
+    let integrality = bound.integrality;
+    match integrality {
+        Integrality::Mixed => Operand::To(bound, 0, work, entries),
+        Integrality::Integer => match limits::charge(Resource::Work, work, 1, max_work) {
+            Charged::Stopped(stop, now) => Operand::Stopped(stop, now, entries),
+            Charged::Paid(now) => {
+                Operand::To(bound.meet(Bound::numeric(restriction)), 0, now, entries)
+            }
+        },
+    }
+}
+
+// A slot that is narrowed, as an operand. Its ids are read only where it has a list.
+fn narrow_slot(
+    slots: &[u32],
+    slot: usize,
+    restriction: Interval,
+    constants: &[u32],
+    work: u64,
+    max_work: u64,
+    entries: u64,
+    max_entries: u64,
+) -> Operand
+    ensures { λ r. ⌜ operandTo r «max_work» «max_entries» ≡ sees (narrow (now (constants .entry)) restriction (valueAt (now (slots .entry)) slot) (meter work «max_work» entries «max_entries»)) ⌝ }
+{
+    if rows::is_listed(slots, slot) {
+        let value = rows::abstract_at(slots, slot);
+        return operand_of(refinements::narrow(
+            value,
+            restriction,
+            constants,
+            work,
+            max_work,
+            entries,
+            max_entries,
+        ));
+    }
+    let bound = rows::bound_at(slots, slot);
+    narrow_bound(bound, restriction, work, max_work, entries)
+}
+
+// A slot as an operand.
+fn slot_operand(
+    slots: &[u32],
+    slot: usize,
+    refinements: &[u32],
+    count: usize,
+    id: u64,
+    constants: &[u32],
+    work: u64,
+    max_work: u64,
+    entries: u64,
+    max_entries: u64,
+) -> Operand
+    ensures { λ r. ⌜ operandTo r «max_work» «max_entries» ≡ sees (after (copied (valueAt (now (slots .entry)) slot) (meter work «max_work» entries «max_entries»)) (restrict (now (constants .entry)) (refinementsOf (now (refinements .entry)) count) id)) ⌝ }
+{
+    match rows::copied_at(slots, slot, work, max_work, entries, max_entries) {
+        Copied::Stopped(stop, w, e) => Operand::Stopped(stop, w, e),
+        Copied::To(w, e) => {
+            let listed = rows::entries_at(slots, slot);
+            match refinements::position(refinements, count, id, w, max_work) {
+                Noted::Stopped(stop, now) => {
+                    Operand::Stopped(stop, now, limits::release(e, listed))
+                }
+                Noted::At(k, now) => {
+                    if count <= k {
+                        return Operand::To(rows::bound_at(slots, slot), listed, now, e);
+                    }
+                    narrow_slot(
+                        slots,
+                        slot,
+                        refinements::restriction_at(refinements, k),
+                        constants,
+                        now,
+                        max_work,
+                        e,
+                        max_entries,
+                    )
+                }
+            }
+        }
+    }
+}
+
+// An expression as an operand. The left child comes first.
+pub fn as_operand(
+    nodes: &[u64],
+    constants: &[u32],
+    width: u64,
+    slots: &[u32],
+    refinements: &[u32],
+    count: usize,
+    id: u64,
+    work: u64,
+    max_work: u64,
+    entries: u64,
+    max_entries: u64,
+) -> Operand
+    ensures { λ r. ⌜ operandTo r «max_work» «max_entries» ≡ sees (expression (input (now (nodes .entry)) (now (constants .entry)) width) (now (slots .entry)) (refinementsOf (now (refinements .entry)) count) id (meter work «max_work» entries «max_entries»)) ⌝ }
+{
+    match limits::charge(Resource::Work, work, 1, max_work) {
+        Charged::Stopped(stop, now) => Operand::Stopped(stop, now, entries),
+        Charged::Paid(now) => match nodes::expression_at(nodes, id as usize) {
+            Expression::Constant(constant) => {
+                let node = constant_value(constants, constant, width, now, entries, max_entries);
+                operand_of(finish(
+                    node,
+                    refinements,
+                    count,
+                    id,
+                    constants,
+                    max_work,
+                    max_entries,
+                ))
+            }
+            Expression::Slot(slot) => slot_operand(
+                slots,
+                slot as usize,
+                refinements,
+                count,
+                id,
+                constants,
+                now,
+                max_work,
+                entries,
+                max_entries,
+            ),
+            Expression::Unknown(integer, reason) => {
+                let value = unknown(integer, reason);
+                operand_of(refinements::restrict(
+                    value,
+                    refinements,
+                    count,
+                    id,
+                    constants,
+                    now,
+                    max_work,
+                    entries,
+                    max_entries,
+                ))
+            }
+            Expression::Unary(op, child) => match as_operand(
+                nodes,
+                constants,
+                width,
+                slots,
+                refinements,
+                count,
+                child,
+                now,
+                max_work,
+                entries,
+                max_entries,
+            ) {
+                Operand::Stopped(stop, w, e) => Operand::Stopped(stop, w, e),
+                Operand::To(a, n, w, e) => {
+                    let x = a.interval;
+                    let interval = operators::unary(op, x);
+                    after_one(interval, n, refinements, count, id, w, max_work, e)
+                }
+            },
+            Expression::Absolute(child) => match as_operand(
+                nodes,
+                constants,
+                width,
+                slots,
+                refinements,
+                count,
+                child,
+                now,
+                max_work,
+                entries,
+                max_entries,
+            ) {
+                Operand::Stopped(stop, w, e) => Operand::Stopped(stop, w, e),
+                Operand::To(a, n, w, e) => {
+                    let x = a.interval;
+                    let interval = operators::absolute(x);
+                    after_one(interval, n, refinements, count, id, w, max_work, e)
+                }
+            },
+            Expression::Binary(op, left, right) => match as_operand(
+                nodes,
+                constants,
+                width,
+                slots,
+                refinements,
+                count,
+                left,
+                now,
+                max_work,
+                entries,
+                max_entries,
+            ) {
+                Operand::Stopped(stop, w, e) => Operand::Stopped(stop, w, e),
+                Operand::To(a, n, w, e) => match as_operand(
+                    nodes,
+                    constants,
+                    width,
+                    slots,
+                    refinements,
+                    count,
+                    right,
+                    w,
+                    max_work,
+                    e,
+                    max_entries,
+                ) {
+                    Operand::Stopped(stop, v, f) => {
+                        Operand::Stopped(stop, v, limits::release(f, n))
+                    }
+                    Operand::To(b, m, v, f) => {
+                        let x = a.interval;
+                        let y = b.interval;
+                        after_two(
+                            nodes,
+                            constants,
+                            op,
+                            left,
+                            right,
+                            x,
+                            n,
+                            y,
+                            m,
+                            refinements,
+                            count,
+                            id,
+                            v,
+                            max_work,
+                            f,
+                        )
+                    }
+                },
+            },
+        },
+    }
+}
+
+// The value of an expression, over the slots' values and under the first `count` refinements. One with children is numeric.
 pub fn expression(
     nodes: &[u64],
     constants: &[u32],
@@ -326,139 +623,45 @@ pub fn expression(
                     max_entries,
                 )
             }
-            Expression::Unary(op, child) => {
-                let a = expression(
-                    nodes,
-                    constants,
-                    width,
-                    slots,
-                    refinements,
-                    count,
-                    child,
-                    now,
-                    max_work,
-                    entries,
-                    max_entries,
-                );
-                let value = a.value;
-                let bound = value.bound;
-                let interval = bound.interval;
-                let node = after_one(a, operators::unary(op, interval), max_work);
-                finish(
-                    node,
-                    refinements,
-                    count,
-                    id,
-                    constants,
-                    max_work,
-                    max_entries,
-                )
-            }
-            Expression::Absolute(child) => {
-                let a = expression(
-                    nodes,
-                    constants,
-                    width,
-                    slots,
-                    refinements,
-                    count,
-                    child,
-                    now,
-                    max_work,
-                    entries,
-                    max_entries,
-                );
-                let value = a.value;
-                let bound = value.bound;
-                let interval = bound.interval;
-                let node = after_one(a, operators::absolute(interval), max_work);
-                finish(
-                    node,
-                    refinements,
-                    count,
-                    id,
-                    constants,
-                    max_work,
-                    max_entries,
-                )
-            }
-            Expression::Binary(op, left, right) => {
-                let a = expression(
-                    nodes,
-                    constants,
-                    width,
-                    slots,
-                    refinements,
-                    count,
-                    left,
-                    now,
-                    max_work,
-                    entries,
-                    max_entries,
-                );
-                let outcome = a.outcome;
-                match outcome {
-                    Outcome::Stopped(_) => a,
-                    Outcome::Done => {
-                        let b = expression(
-                            nodes,
-                            constants,
-                            width,
-                            slots,
-                            refinements,
-                            count,
-                            right,
-                            a.work,
-                            max_work,
-                            a.entries,
-                            max_entries,
-                        );
-                        let node = after_two(
-                            nodes,
-                            constants,
-                            op,
-                            left,
-                            right,
-                            a.value,
-                            b,
-                            max_work,
-                        );
-                        finish(
-                            node,
-                            refinements,
-                            count,
-                            id,
-                            constants,
-                            max_work,
-                            max_entries,
-                        )
-                    }
-                }
-            }
-        },
-    }
-}
-
-// The second of two values, beside the first, which is dropped where there is no second.
-fn beside(first: Abstract, second: Made) -> Pair
-    ensures { λ r. ⌜ Pairs (valueOf first) second r ⌝ }
-{
-    let outcome = second.outcome;
-    let value = second.value;
-    match outcome {
-        Outcome::Stopped(stop) => Pair {
-            outcome: Outcome::Stopped(stop),
-            first,
-            second: value,
-            work: second.work,
-            entries: limits::release(second.entries, rows::entries_of(first)),
-        },
-        Outcome::Done => Pair {
-            outcome: Outcome::Done,
-            first,
-            second: value,
-            work: second.work,
-            entries: second.entries,
+            Expression::Unary(_, _) => plain(as_operand(
+                nodes,
+                constants,
+                width,
+                slots,
+                refinements,
+                count,
+                id,
+                work,
+                max_work,
+                entries,
+                max_entries,
+            )),
+            Expression::Absolute(_) => plain(as_operand(
+                nodes,
+                constants,
+                width,
+                slots,
+                refinements,
+                count,
+                id,
+                work,
+                max_work,
+                entries,
+                max_entries,
+            )),
+            Expression::Binary(_, _, _) => plain(as_operand(
+                nodes,
+                constants,
+                width,
+                slots,
+                refinements,
+                count,
+                id,
+                work,
+                max_work,
+                entries,
+                max_entries,
+            )),
         },
     }
 }
@@ -478,9 +681,9 @@ pub fn both(
     entries: u64,
     max_entries: u64,
 ) -> Pair
-    ensures { λ r. ⌜ paired r «max_work» «max_entries» ≡ both (input (now (nodes .entry)) (now (constants .entry)) width) (now (slots .entry)) (refinementsOf (now (refinements .entry)) count) left right (meter work «max_work» entries «max_entries») ⌝ }
+    ensures { λ r. ⌜ pairTo r «max_work» «max_entries» ≡ seesBoth (both (input (now (nodes .entry)) (now (constants .entry)) width) (now (slots .entry)) (refinementsOf (now (refinements .entry)) count) left right (meter work «max_work» entries «max_entries»)) ⌝ }
 {
-    let a = expression(
+    match as_operand(
         nodes,
         constants,
         width,
@@ -492,32 +695,23 @@ pub fn both(
         max_work,
         entries,
         max_entries,
-    );
-    let outcome = a.outcome;
-    let value = a.value;
-    match outcome {
-        Outcome::Stopped(stop) => Pair {
-            outcome: Outcome::Stopped(stop),
-            first: value,
-            second: value,
-            work: a.work,
-            entries: a.entries,
+    ) {
+        Operand::Stopped(stop, w, e) => Pair::Stopped(stop, w, e),
+        Operand::To(a, n, w, e) => match as_operand(
+            nodes,
+            constants,
+            width,
+            slots,
+            refinements,
+            count,
+            right,
+            w,
+            max_work,
+            e,
+            max_entries,
+        ) {
+            Operand::Stopped(stop, v, f) => Pair::Stopped(stop, v, limits::release(f, n)),
+            Operand::To(b, m, v, f) => Pair::To(a, n, b, m, v, f),
         },
-        Outcome::Done => {
-            let b = expression(
-                nodes,
-                constants,
-                width,
-                slots,
-                refinements,
-                count,
-                right,
-                a.work,
-                max_work,
-                a.entries,
-                max_entries,
-            );
-            beside(value, b)
-        }
     }
 }

@@ -21,7 +21,7 @@ use Rattle.interval.specs.declared.Constant.{Constant}
 use Rattle.interval.specs.declared.Constant.the-variants.{Number, Name, Large}
 use Rattle.interval.specs.declared.Bound.{Bound}
 use Rattle.interval.specs.Interval.{ascendingOf, hullOf, meetOf, checkedOf, endpointsOf, containsOf, sameOf}
-use Rattle.interval.specs.Bound.{constantOf, hullBound, meetBound, eitherOf, bothOf, sameBound, allowsOf}
+use Rattle.interval.specs.Bound.{numericOf, constantOf, hullBound, meetBound, eitherOf, bothOf, sameBound, allowsOf}
 use Rattle.interval.proofs.Members.{interval-cousot}
 
 -- ---- `ascending`, by its test
@@ -180,6 +180,15 @@ module _ {x y : Interval} {a b c d : ℤ} (p : x ≡ Bounded a b) (q : y ≡ Bou
   other-low d = rw (p, q, no-eq a c (λ e. d (ap (ofZ w32) e)))
 
 -- ---- bounds
+
+pub nothing-made : {i : Interval} → i ≡ Bottom → numericOf Bottom ≡ numericOf i
+nothing-made p = rw p
+
+pub between-made : {i : Interval} {a b l h : ℤ} → i ≡ Bounded a b → l ≡ a → h ≡ b → numericOf (Bounded l h) ≡ numericOf i
+between-made p el eh = rw (p, el, eh)
+
+pub open-made : {i : Interval} → i ≡ Unbounded → numericOf Unbounded ≡ numericOf i
+open-made p = rw p
 
 pub number-made : {c : Constant} {n l h : ℤ} → c ≡ Number n → l ≡ n → h ≡ n → record { integrality = Integer; interval = Bounded l h } ≡ constantOf c
 number-made p el eh = rw (p, el, eh)

@@ -228,12 +228,20 @@ impl Bound {
     };
 
     // Numbers of an interval.
+    // Case by case: an interval that was just made is slow to copy whole, and this one is made for every node of an expression.
     pub fn numeric(interval: Interval) -> Bound
         ensures { λ r. ⌜ r ≡ numericOf interval ⌝ }
     {
-        Bound {
-            integrality: Integrality::Integer,
-            interval,
+        match interval {
+            Interval::Bottom => Bound::BOTTOM,
+            Interval::Bounded { low, high } => Bound {
+                integrality: Integrality::Integer,
+                interval: Interval::Bounded { low, high },
+            },
+            Interval::Unbounded => Bound {
+                integrality: Integrality::Integer,
+                interval: Interval::Unbounded,
+            },
         }
     }
 

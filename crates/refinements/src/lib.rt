@@ -17,11 +17,17 @@ ghost use Rattle.limits.specs.Meter.{meter};
 ghost use Rattle.lattice.specs.Value.{valueOf};
 ghost use Rattle.lattice.specs.Answers.{made};
 ghost use Rattle.refinements.specs.Refinement.{row, refinementAt, refinementsOf, putRefinement, integer?, narrow, restrict, position, note};
-ghost use Rattle.refinements.specs.Answers.{Places, NotesAs};
+ghost use Rattle.refinements.specs.Answers.{Places, Restricts, NotesAs};
 
 // A number, a place or how many there are, with the work after it.
 pub enum Noted {
     At(usize, u64),
+    Stopped(Stop, u64),
+}
+
+// The interval of a numeric value, with the work after it.
+pub enum Narrowed {
+    To(Interval, u64),
     Stopped(Stop, u64),
 }
 
@@ -45,7 +51,8 @@ fn expression_at(cells: &[u32], k: usize) -> u64
     cell_at(cells, at) as u64
 }
 
-fn restriction_at(cells: &[u32], k: usize) -> Interval
+// The interval of one of them.
+pub fn restriction_at(cells: &[u32], k: usize) -> Interval
     ensures { λ r. ⌜ r ≡ refinementAt (now (cells .entry)) k .restriction ⌝ }
 {
     let at = start(cells.len(), k);
@@ -68,7 +75,7 @@ fn put_refinement(cells: &mut [u32], k: usize, id: u64, restriction: Interval)
 }
 
 // Whether all that a value holds are numbers.
-pub fn is_integer(value: Abstract) -> bool
+fn is_integer(value: Abstract) -> bool
     ensures { λ r. ⌜ r ≡ integer? (valueOf value) ⌝ }
 {
     let bound = value.bound;
@@ -80,7 +87,7 @@ pub fn is_integer(value: Abstract) -> bool
 }
 
 // A value that holds numbers alone is narrowed, and dropped on every way out.
-fn narrow(
+pub fn narrow(
     value: Abstract,
     restriction: Interval,
     constants: &[u32],
@@ -111,59 +118,8 @@ fn narrow(
     }
 }
 
-// The end of `expression`: what is known of an expression narrows its value.
-pub fn restrict(
-    value: Abstract,
-    refinements: &[u32],
-    count: usize,
-    id: u64,
-    constants: &[u32],
-    work: u64,
-    max_work: u64,
-    entries: u64,
-    max_entries: u64,
-) -> Made
-    ensures { λ r. ⌜ made r «max_work» «max_entries» ≡ restrict (now (constants .entry)) (refinementsOf (now (refinements .entry)) count) id (valueOf value) (meter work «max_work» entries «max_entries») ⌝ }
-{
-    let mut spent = work;
-    let mut k: usize = 0;
-    while k < count {
-        match limits::charge(Resource::Work, spent, 1, max_work) {
-            Charged::Stopped(stop, now) => {
-                return Made {
-                    outcome: Outcome::Stopped(stop),
-                    value,
-                    work: now,
-                    entries: limits::release(entries, rows::entries_of(value)),
-                };
-            }
-            Charged::Paid(now) => {
-                spent = now;
-            }
-        }
-        if expression_at(refinements, k) == id {
-            return narrow(
-                value,
-                restriction_at(refinements, k),
-                constants,
-                spent,
-                max_work,
-                entries,
-                max_entries,
-            );
-        }
-        k += 1;
-    }
-    Made {
-        outcome: Outcome::Done,
-        value,
-        work: spent,
-        entries,
-    }
-}
-
 // The place of an expression's first refinement, or the end.
-fn position(refinements: &[u32], count: usize, id: u64, work: u64, max_work: u64) -> Noted
+pub fn position(refinements: &[u32], count: usize, id: u64, work: u64, max_work: u64) -> Noted
     ensures { λ r. ⌜ Places (position 0 (refinementsOf (now (refinements .entry)) count) id) work «max_work» r ⌝ }
 {
     let mut spent = work;
@@ -183,6 +139,76 @@ fn position(refinements: &[u32], count: usize, id: u64, work: u64, max_work: u64
         k += 1;
     }
     Noted::At(k, spent)
+}
+
+// The end of `expression`: what is known of an expression narrows its value.
+pub fn restrict(
+    value: Abstract,
+    refinements: &[u32],
+    count: usize,
+    id: u64,
+    constants: &[u32],
+    work: u64,
+    max_work: u64,
+    entries: u64,
+    max_entries: u64,
+) -> Made
+    ensures { λ r. ⌜ made r «max_work» «max_entries» ≡ restrict (now (constants .entry)) (refinementsOf (now (refinements .entry)) count) id (valueOf value) (meter work «max_work» entries «max_entries») ⌝ }
+{
+    match position(refinements, count, id, work, max_work) {
+        Noted::Stopped(stop, now) => Made {
+            outcome: Outcome::Stopped(stop),
+            value,
+            work: now,
+            entries: limits::release(entries, rows::entries_of(value)),
+        },
+        Noted::At(k, now) => {
+            if k < count {
+                return narrow(
+                    value,
+                    restriction_at(refinements, k),
+                    constants,
+                    now,
+                    max_work,
+                    entries,
+                    max_entries,
+                );
+            }
+            Made {
+                outcome: Outcome::Done,
+                value,
+                work: now,
+                entries,
+            }
+        }
+    }
+}
+
+// The same of a numeric value, which has no list: its interval is all that changes.
+pub fn restrict_interval(
+    interval: Interval,
+    refinements: &[u32],
+    count: usize,
+    id: u64,
+    work: u64,
+    max_work: u64,
+) -> Narrowed
+    ensures { λ r. ⌜ Restricts (refinementsOf (now (refinements .entry)) count) id interval work «max_work» r ⌝ }
+{
+    match position(refinements, count, id, work, max_work) {
+        Noted::Stopped(stop, now) => Narrowed::Stopped(stop, now),
+        Noted::At(k, now) => {
+            if count <= k {
+                return Narrowed::To(interval, now);
+            }
+            match limits::charge(Resource::Work, now, 1, max_work) {
+                Charged::Stopped(stop, spent) => Narrowed::Stopped(stop, spent),
+                Charged::Paid(spent) => {
+                    Narrowed::To(interval.meet(restriction_at(refinements, k)), spent)
+                }
+            }
+        }
+    }
 }
 
 // A restriction meets the one that is recorded, or is recorded: how many there are then.

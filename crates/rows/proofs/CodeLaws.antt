@@ -6,7 +6,7 @@ use native.Mathlib.Numerals.{towards-suc}
 use mathlib.Core.Path.{_≡_, refl, sym, ap, _∙_}
 use mathlib.Core.Bool.{Bool, true, false, cond, not}
 use mathlib.Core.List.{List}
-use mathlib.Core.Option.{some, none}
+use mathlib.Core.Option.{Option, some, none}
 use borrow.Author.Tests.{eq-eqb, ne-eqb}
 use lib.Dec.{eqb}
 use lib.IntN.{ℤ}
@@ -23,7 +23,7 @@ use Rattle.lattice.specs.declared.Reason.{Reason}
 use Rattle.lattice.specs.declared.Reason.the-variants.{None}
 use Rattle.lattice.specs.declared.Abstract.{Abstract}
 use Rattle.lattice.specs.Value.{Value, valueOf, reasonNumber}
-use Rattle.rows.specs.Row.{row, padded, integralityCell, caseCell, lowCell, highCell, boundCells, keptCell, listOf, entriesOf, encode, integralityOf, intervalOf, reasons, reasonOf, idOf, idsOf, decode, valueAt, put}
+use Rattle.rows.specs.Row.{row, padded, integralityCell, caseCell, lowCell, highCell, boundCells, keptCell, listed?, listOf, entriesOf, encode, integralityOf, intervalOf, reasons, reasonOf, idOf, idsOf, decode, valueAt, put}
 use Rattle.rows.proofs.RowLaws.{length-padded, getD-padded, row-cell}
 
 -- ---- one cell
@@ -42,6 +42,9 @@ pub one-interval : {n : ℕ} {a b low high : ℤ} {r : Interval} → n ≡ 1 →
 one-interval one el eh e = e ∙ rw (one, el, eh)
 
 -- ---- the bound
+
+abbrev bound : Integrality → Interval → Bound
+bound g x = record { integrality = g; interval = x }
 
 pub bound-put : (d : List ℕ) (at : ℕ) (b : Bound) {a₀ a₁ a₂ a₃ : ℕ} {l₁ l₂ l₃ r : List ℕ} →
     a₀ ≡ integralityCell (b .integrality) → a₁ ≡ caseCell (b .interval) → a₂ ≡ lowCell (b .interval) → a₃ ≡ highCell (b .interval) →
@@ -150,3 +153,34 @@ module _ (cells : List ℕ) (i at : ℕ) (start : at ≡ min (row * i) (length c
   entries-some {a₄} {a₅} e₄ e₅ z m =
       let l : length (idsOf (padded row (drop at cells))) ≡ 16 = simp (length-map, length-take, length-drop, length-padded) in
       m ∙ sym (length-take a₅ (idsOf (padded row (drop at cells))) ∙ ap (min a₅) l) ∙ (rw (ne-eqb a₄ 0 z) at (row-entries e₄ e₅))
+
+  -- ---- a row in parts
+
+  pub bound-read : {a₀ a₁ a₂ a₃ : ℕ} {g : Integrality} {x : Interval} →
+      a₀ ≡ getD cells at 0 → a₁ ≡ getD cells (at + 1) 0 → a₂ ≡ getD cells (at + 2) 0 → a₃ ≡ getD cells (at + 3) 0 →
+      g ≡ integralityOf a₀ → x ≡ intervalOf a₁ (ofCell a₂) (ofCell a₃) → bound g x ≡ valueAt cells i .bound
+  bound-read e₀ e₁ e₂ e₃ eg ex = ap (λ (v : Value). v .bound) (row-read e₀ e₁ e₂ e₃ refl refl refl eg ex refl refl)
+
+  row-values : {a₄ : ℕ} → a₄ ≡ getD cells (at + 4) 0 →
+      valueAt cells i .values ≡ cond (eqb a₄ 0) none (some (take (getD cells (at + 5) 0) (idsOf (padded row (drop at cells)))))
+  unfolding valueAt decode
+  row-values e₄ = rw (← the-row, e₄, cell 4 (omega arith), cell 5 (omega arith))
+
+  pub row-unlisted : {a₄ : ℕ} → a₄ ≡ getD cells (at + 4) 0 → a₄ ≡ 0 → valueAt cells i .values ≡ none
+  row-unlisted {a₄} e₄ z = rw (eq-eqb a₄ 0 z) at (row-values e₄)
+
+  -- its list, and how long it is
+  pub record Listed (n : ℕ) : Type 0 where
+    pub list : List ℕ
+    pub is : valueAt cells i .values ≡ some list
+    pub size : n ≡ length list
+
+  pub row-listed : {a₄ n : ℕ} → a₄ ≡ getD cells (at + 4) 0 → (a₄ ≡ 0 → ⊥) → n ≡ entriesOf (valueAt cells i) → Listed n
+  row-listed {a₄} e₄ z e = let p = rw (ne-eqb a₄ 0 z) at (row-values e₄) in record { list = _; is = p; size = e ∙ ap (λ (o : Option (List ℕ)). length (listOf o)) p }
+
+  pub listed-read : {a₄ : ℕ} → a₄ ≡ getD cells (at + 4) 0 → not (eqb a₄ 0) ≡ listed? (valueAt cells i .values)
+  listed-read {a₄} e₄ = go (eqb a₄ 0) ∙ ap listed? (sym (row-values e₄))
+    where
+      go : (t : Bool) → not t ≡ listed? (cond t none (some (take (getD cells (at + 5) 0) (idsOf (padded row (drop at cells))))))
+      go true = refl
+      go false = refl

@@ -1,6 +1,6 @@
 -- A value as a row of `row` cells in a lent table. A cell beyond the table reads as 0 and is not written, and any contents read as a value.
 use Prim.Native.Nat.{ℕ, zero, suc, _-_, _*_, _%_, _^_}
-use mathlib.Core.Bool.{cond}
+use mathlib.Core.Bool.{Bool, true, false, cond}
 use mathlib.Core.List.{List, [], _∷_, _++_, map}
 use mathlib.Core.Option.{Option, some, none}
 use lib.Dec.{eqb}
@@ -54,6 +54,10 @@ boundCells b = integralityCell (b .integrality) ∷ caseCell (b .interval) ∷ l
 abbrev pub keptCell : Option (List ℕ) → ℕ
 keptCell none = 0
 keptCell (some l) = 1
+
+abbrev pub listed? : Option (List ℕ) → Bool
+listed? none = false
+listed? (some l) = true
 
 abbrev pub listOf : Option (List ℕ) → List ℕ
 listOf none = []

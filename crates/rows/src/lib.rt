@@ -5,8 +5,11 @@ ghost use Prim.Native.Nat.{min, _+_, _-_, _*_, _≤_};
 ghost use lib.ListN.{length, getD, take, drop};
 ghost use lib.Seq.{sets};
 ghost use Rattle.cells.specs.Cells.{ofCell};
+ghost use Rattle.limits.specs.Meter.{meter};
 ghost use Rattle.lattice.specs.Value.{valueOf};
-ghost use Rattle.rows.specs.Row.{row, padded, integralityCell, caseCell, lowCell, highCell, boundCells, keptCell, listOf, entriesOf, integralityOf, intervalOf, reasonOf, idsOf, valueAt, put};
+ghost use Rattle.lattice.specs.Lattice.{copied};
+ghost use Rattle.rows.specs.Row.{row, padded, integralityCell, caseCell, lowCell, highCell, boundCells, keptCell, listed?, listOf, entriesOf, integralityOf, intervalOf, reasonOf, idsOf, valueAt, put};
+ghost use Rattle.rows.specs.Answers.{copiedTo};
 use cells::cell_at;
 use cells::of_cell;
 use cells::put_cell;
@@ -17,6 +20,15 @@ use interval::Interval;
 use lattice::Abstract;
 use lattice::Reason;
 use lattice::Widening;
+use limits::Charged;
+use limits::Resource;
+use limits::Stop;
+
+// The counts after a copy is made: work and live entries.
+pub enum Copied {
+    To(u64, u64),
+    Stopped(Stop, u64, u64),
+}
 
 // The cells of a row: integrality, the interval's case and two ends, whether there is a list, its length, the reason,
 // 16 ids, and one unused.
@@ -221,6 +233,61 @@ pub fn entries_at(cells: &[u32], row: usize) -> u64
         return 16;
     }
     len as u64
+}
+
+// The bound of the value in a row.
+pub fn bound_at(cells: &[u32], row: usize) -> Bound
+    ensures { λ r. ⌜ r ≡ valueAt (now (cells .entry)) row .bound ⌝ }
+{
+    let at = start(cells.len(), row);
+    let integrality = integrality_of(cell_at(cells, at));
+    let interval = interval_of(
+        cell_at(cells, at + 1),
+        cell_at(cells, at + 2),
+        cell_at(cells, at + 3),
+    );
+    Bound {
+        integrality,
+        interval,
+    }
+}
+
+// Whether the value in a row has a list.
+pub fn is_listed(cells: &[u32], row: usize) -> bool
+    ensures { λ r. ⌜ r ≡ listed? (valueAt (now (cells .entry)) row .values) ⌝ }
+{
+    let at = start(cells.len(), row);
+    cell_at(cells, at + 4) != 0
+}
+
+// What a copy of the value in a row costs. The value itself is not read: its ids are many.
+pub fn copied_at(
+    cells: &[u32],
+    row: usize,
+    work: u64,
+    max_work: u64,
+    entries: u64,
+    max_entries: u64,
+) -> Copied
+    ensures { λ r. ⌜ copiedTo r (valueAt (now (cells .entry)) row) «max_work» «max_entries» ≡ copied (valueAt (now (cells .entry)) row) (meter work «max_work» entries «max_entries») ⌝ }
+{
+    let at = start(cells.len(), row);
+    match limits::charge(Resource::Work, work, 1, max_work) {
+        Charged::Stopped(stop, now) => Copied::Stopped(stop, now, entries),
+        Charged::Paid(now) => {
+            if cell_at(cells, at + 4) == 0 {
+                return Copied::To(now, entries);
+            }
+            let n = entries_at(cells, row);
+            match limits::charge(Resource::Work, now, n, max_work) {
+                Charged::Stopped(stop, spent) => Copied::Stopped(stop, spent, entries),
+                Charged::Paid(spent) => match lists::retain_all(n, entries, max_entries) {
+                    Charged::Stopped(stop, live) => Copied::Stopped(stop, spent, live),
+                    Charged::Paid(live) => Copied::To(spent, live),
+                },
+            }
+        }
+    }
 }
 
 // An id of the list, or 0 behind it.

@@ -1,26 +1,12 @@
 -- `evaluation::after_two` meets its contract.
 use borrow.Author.Needs.{needs}
-use Rattle.evaluation.proofs.CodeLaws.{two-stopped, two-refused, two-halted, two-made}
+use Rattle.evaluation.proofs.CodeLaws.{narrows-free, two-refused, two-halted, two-made}
+use Rattle.refinements.specs.Refinement.{refinementsOf}
 use Rattle.evaluation.proofs.after_two.Statement.{statement}
 use Rattle.evaluation.proofs.after_two.Tie as tie
 
-entries-of-requires : tie.Need-entries-of-requires
-entries-of-requires c κs = search needs
-
 release-requires : tie.Need-release-requires
 release-requires c κs = search needs
-
-enum-known-outcome : tie.Need-enum-known-outcome
-enum-known-outcome c = search needs
-
-stopped-at-requires : tie.Need-stopped-at-requires
-stopped-at-requires c κs = search needs
-
-enum-told : tie.Need-enum-told
-enum-told c = search needs
-
-entries-of-requires-2 : tie.Need-entries-of-requires-2
-entries-of-requires-2 c κs = search needs
 
 release-requires-2 : tie.Need-release-requires-2
 release-requires-2 c κs = search needs
@@ -31,9 +17,6 @@ charge-requires c κs = search needs
 enum-known-stop : tie.Need-enum-known-stop
 enum-known-stop c = search needs
 
-stopped-at-requires-2 : tie.Need-stopped-at-requires-2
-stopped-at-requires-2 c κs = search needs
-
 enum-known-now : tie.Need-enum-known-now
 enum-known-now c = search needs
 
@@ -43,88 +26,77 @@ combine-requires c κs = search needs
 enum-known-stop-2 : tie.Need-enum-known-stop-2
 enum-known-stop-2 c = search needs
 
-stopped-at-requires-3 : tie.Need-stopped-at-requires-3
-stopped-at-requires-3 c κs = search needs
-
 enum-known-interval : tie.Need-enum-known-interval
 enum-known-interval c = search needs
 
-made-of-requires : tie.Need-made-of-requires
-made-of-requires c κs = search needs
+numeric-requires : tie.Need-numeric-requires
+numeric-requires c κs = search needs
 
 returns : tie.Need-returns
 returns c =
-    let c₂ = c .before .before in
-    let c₄ = c₂ .before .before in
-    let c₅ = c₄ .before in
-    let c₉ = c₅ .before .before .before .before in
-    let a = c₉ .args in
-    two-stopped _ _ _ _ _ _ _ (a .b) (c₅ .entries-of .ensures) (c₄ .release .ensures) (c₂ .outcome .given .1) (c .stopped-at .ensures)
+    let c₁ = c .before in
+    let c₃ = c₁ .before .before in
+    let c₅ = c₃ .before .before in
+    let c₇ = c₅ .before .before in
+    let c₉ = c₇ .before .before in
+    let c₁₀ = c₉ .before in
+    let c₁₁ = c₁₀ .before in
+    let c₁₅ = c₁₁ .before .before .before .before in
+    let a = c₁₅ .args in
+    two-made (a .nodes .now) (a .constants .now) (refinementsOf (a .refinements .now) (a .count)) (a .id) (a .op) (a .left) (a .right) (a .x) (a .listed) (a .y) (a .more) (a .work) (a .max-work) (a .entries) (c₁₁ .release .ensures) (c₁₀ .release2 .ensures) (c₉ .charge .ensures) (c₇ .now .given .1) (c₅ .combine .ensures) (c₃ .interval .given .1) (narrows-free (a .refinements .now) (a .id) _ _ (a .max-work) _ (c₁ .if1 .taken) (c .numeric .ensures))
+
+narrowed-requires : tie.Need-narrowed-requires
+narrowed-requires c κs = search needs
 
 returns-2 : tie.Need-returns-2
 returns-2 c =
-    let c₂ = c .before .before in
-    let c₄ = c₂ .before .before in
+    let c₁ = c .before in
+    let c₃ = c₁ .before .before in
+    let c₄ = c₃ .before in
     let c₅ = c₄ .before in
-    let c₆ = c₅ .before in
-    let c₉ = c₆ .before .before .before in
-    let c₁₁ = c₉ .before .before in
-    let c₁₂ = c₁₁ .before in
-    let c₁₆ = c₁₂ .before .before .before .before in
-    let a = c₁₆ .args in
-    two-refused _ _ _ _ _ _ _ (a .b) (c₁₂ .entries-of .ensures) (c₁₁ .release .ensures) (c₉ .enum-told .given .1) (c₆ .entries-of2 .ensures) (c₅ .release2 .ensures) (c₄ .charge .ensures) (c₂ .stop .given .1) (c .stopped-at2 .ensures)
+    let c₉ = c₅ .before .before .before .before in
+    let a = c₉ .args in
+    two-refused (a .nodes .now) (a .constants .now) (refinementsOf (a .refinements .now) (a .count)) (a .id) (a .op) (a .left) (a .right) (a .x) (a .listed) (a .y) (a .more) (a .work) (a .max-work) (a .entries) (c₅ .release .ensures) (c₄ .release2 .ensures) (c₃ .charge .ensures) (c₁ .stop .given .1)
 
 returns-3 : tie.Need-returns-3
 returns-3 c =
-    let c₂ = c .before .before in
-    let c₄ = c₂ .before .before in
-    let c₆ = c₄ .before .before in
-    let c₈ = c₆ .before .before in
+    let c₁ = c .before in
+    let c₃ = c₁ .before .before in
+    let c₅ = c₃ .before .before in
+    let c₇ = c₅ .before .before in
+    let c₈ = c₇ .before in
     let c₉ = c₈ .before in
-    let c₁₀ = c₉ .before in
-    let c₁₃ = c₁₀ .before .before .before in
-    let c₁₅ = c₁₃ .before .before in
-    let c₁₆ = c₁₅ .before in
-    let c₂₀ = c₁₆ .before .before .before .before in
-    let a = c₂₀ .args in
-    two-halted _ _ _ _ _ _ _ (a .b) (c₁₆ .entries-of .ensures) (c₁₅ .release .ensures) (c₁₃ .enum-told .given .1) (c₁₀ .entries-of2 .ensures) (c₉ .release2 .ensures) (c₈ .charge .ensures) (c₆ .now .given .1) (c₄ .combine .ensures) (c₂ .stop2 .given .1) (c .stopped-at3 .ensures)
+    let c₁₃ = c₉ .before .before .before .before in
+    let a = c₁₃ .args in
+    two-halted (a .nodes .now) (a .constants .now) (refinementsOf (a .refinements .now) (a .count)) (a .id) (a .op) (a .left) (a .right) (a .x) (a .listed) (a .y) (a .more) (a .work) (a .max-work) (a .entries) (c₉ .release .ensures) (c₈ .release2 .ensures) (c₇ .charge .ensures) (c₅ .now .given .1) (c₃ .combine .ensures) (c₁ .stop2 .given .1)
 
 returns-4 : tie.Need-returns-4
 returns-4 c =
-    let c₂ = c .before .before in
-    let c₄ = c₂ .before .before in
-    let c₆ = c₄ .before .before in
-    let c₈ = c₆ .before .before in
-    let c₉ = c₈ .before in
+    let c₃ = c .before .before .before in
+    let c₅ = c₃ .before .before in
+    let c₇ = c₅ .before .before in
+    let c₉ = c₇ .before .before in
     let c₁₀ = c₉ .before in
-    let c₁₃ = c₁₀ .before .before .before in
-    let c₁₅ = c₁₃ .before .before in
-    let c₁₆ = c₁₅ .before in
-    let c₂₀ = c₁₆ .before .before .before .before in
-    let a = c₂₀ .args in
-    two-made _ _ _ _ _ _ _ (a .b) (c₁₆ .entries-of .ensures) (c₁₅ .release .ensures) (c₁₃ .enum-told .given .1) (c₁₀ .entries-of2 .ensures) (c₉ .release2 .ensures) (c₈ .charge .ensures) (c₆ .now .given .1) (c₄ .combine .ensures) (c₂ .interval .given .1) (c .made-of .ensures)
+    let c₁₁ = c₁₀ .before in
+    let c₁₅ = c₁₁ .before .before .before .before in
+    let a = c₁₅ .args in
+    two-made (a .nodes .now) (a .constants .now) (refinementsOf (a .refinements .now) (a .count)) (a .id) (a .op) (a .left) (a .right) (a .x) (a .listed) (a .y) (a .more) (a .work) (a .max-work) (a .entries) (c₁₁ .release .ensures) (c₁₀ .release2 .ensures) (c₉ .charge .ensures) (c₇ .now .given .1) (c₅ .combine .ensures) (c₃ .interval .given .1) (c .narrowed .ensures)
 
 pub after-two-spec : {M : Type 1} → statement M
 after-two-spec =
     tie.close
     (tie.spec
-    entries-of-requires
     release-requires
-    enum-known-outcome
-    stopped-at-requires
-    enum-told
-    entries-of-requires-2
     release-requires-2
     charge-requires
     enum-known-stop
-    stopped-at-requires-2
     enum-known-now
     combine-requires
     enum-known-stop-2
-    stopped-at-requires-3
     enum-known-interval
-    made-of-requires
+    numeric-requires
     returns
+    narrowed-requires
     returns-2
     returns-3
     returns-4)
