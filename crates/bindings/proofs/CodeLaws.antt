@@ -1,6 +1,6 @@
 -- What the code of bindings answers is what the definitions say, over plain variables: one law for each way out.
 use Prim.Native.Nat.{ℕ, _-_}
-use mathlib.Core.Path.{_≡_, sym, ap, _∙_}
+use mathlib.Core.Path.{_≡_, refl, sym, ap, _∙_}
 use mathlib.Core.List.{List, []}
 use Rattle.limits.specs.declared.Stop.{Stop}
 use Rattle.limits.specs.declared.Charged.{Charged}
@@ -11,11 +11,12 @@ use Rattle.limits.specs.Meter.{Meter, meter, dropping}
 use Rattle.limits.proofs.Monad.{bind-stop, bind-on, then-stop, then-on, through-on, through-stop, pure-is}
 use Rattle.limits.proofs.CodeLaws.{drop-on}
 use Rattle.interval.specs.declared.Interval.{Interval}
+use Rattle.interval.specs.declared.Bound.{Bound}
 use Rattle.lattice.specs.declared.Outcome.the-variants.{Done, Stopped}
 use Rattle.lattice.specs.declared.Made.{Made}
 use Rattle.lattice.specs.Value.{Value, valueOf}
 use Rattle.lattice.specs.Lattice.{numeric}
-use Rattle.lattice.specs.Answers.{ranAs, made}
+use Rattle.lattice.specs.Answers.{made}
 use Rattle.rows.specs.Row.{entriesOf}
 use Rattle.rules.specs.declared.AggregateFunction.{AggregateFunction}
 use Rattle.rules.specs.declared.Binding.{Binding}
@@ -26,9 +27,11 @@ use Rattle.slots.specs.declared.Counted.the-variants as counts
 use Rattle.slots.specs.Slots.{Slots, slots, total, holdingRows, meetOwned, each, tops, meetArgument, markDependent}
 use Rattle.slots.specs.Answers.{counted, paid, Pays}
 use Rattle.evaluation.specs.declared.Pair.{Pair}
+use Rattle.evaluation.specs.declared.Pair.the-variants as pair
 use Rattle.operators.specs.Arithmetic.{span}
-use Rattle.evaluation.specs.Evaluation.{Input, expression, both}
-use Rattle.evaluation.specs.Answers.{paired}
+use Rattle.evaluation.specs.Evaluation.{Input, expression, Values, both}
+use Rattle.evaluation.specs.Answers.{seesBoth, pairTo}
+use Rattle.evaluation.proofs.CodeLaws.{Sights, sights, pair-halted}
 use Rattle.bindings.specs.Bindings.{assigned, aggregate, spanning, ranged, meeting, meetBinding, passes, bind}
 use Rattle.bindings.specs.Answers.{met}
 
@@ -41,19 +44,25 @@ assigned-is i rows id m h = h
 pub aggregate-is : {f g : AggregateFunction} {v : Value} → f ≡ g → v ≡ aggregate g → v ≡ aggregate f
 aggregate-is e h = h ∙ ap aggregate (sym e)
 
-module _ (i : Input) (rows : List ℕ) (low high w mw e me : ℕ) (p : Pair) (h : paired p mw me ≡ both i rows [] low high (meter w mw e me)) where
-  pub ends-stopped : {s : Stop} (v : Value) → p .outcome ≡ Stopped s → ranAs (p .outcome) v (meter (p .work) mw (p .entries) me) ≡ ranged i rows low high (meter w mw e me)
+module _ (i : Input) (rows : List ℕ) (low high w mw e me : ℕ) {p : Pair} (h : pairTo p mw me ≡ seesBoth (both i rows [] low high (meter w mw e me))) where
+  pub ends-stopped : {s : Stop} {k live : ℕ} → p ≡ pair.Stopped s k live → stopped s (meter k mw live me) ≡ ranged i rows low high (meter w mw e me)
   unfolding ranged
-  ends-stopped v o = rw o (bind-stop _ _ _ (rw o at h))
+  ends-stopped o = bind-stop _ _ _ (pair-halted h o)
 
   -- the second is dropped first
-  pub ends-made : {v : Value} {j : Interval} {n kept k left : ℕ} → p .outcome ≡ Done → v ≡ numeric j → j ≡ span (p .first .bound .interval) (p .second .bound .interval) →
-      n ≡ entriesOf (valueOf (p .second)) → kept ≡ p .entries - n → k ≡ entriesOf (valueOf (p .first)) → left ≡ kept - k →
-      ranAs (p .outcome) v (meter (p .work) mw left me) ≡ ranged i rows low high (meter w mw e me)
+  pub ends-made : {a b : Bound} {n m k live : ℕ} {v : Value} {j : Interval} {kept left : ℕ} → p ≡ pair.To a n b m k live → v ≡ numeric j → j ≡ span (a .interval) (b .interval) → kept ≡ live - m → left ≡ kept - n →
+      going v (meter k mw left me) ≡ ranged i rows low high (meter w mw e me)
   unfolding ranged spanning
-  ends-made o a b en ek el er =
-      rw (o, a, b, er, ek, en, el)
-      (bind-on _ _ spanning (rw o at h) (drop-on _ (dropping _ (pure _)) _ (drop-on _ (pure _) _ (pure-is _ _))))
+  ends-made {a} {b} {n} {m} {k} {live} o q r ek el =
+      let s : Sights (both i rows [] low high (meter w mw e me)) a n b m (meter k mw live me) = sights h o in
+      rw (q, r, el, ek)
+      (spans (s .pair) (s .first-bound) (s .first-entries) (s .second-bound) (s .second-entries)
+      ∙ bind-on _ _ spanning (s .is) (drop-on _ (dropping _ (pure _)) _ (drop-on _ (pure _) _ (pure-is _ _))))
+    where
+      spans : (p : Values) → p .first .bound ≡ a → entriesOf (p .first) ≡ n → p .second .bound ≡ b → entriesOf (p .second) ≡ m →
+          _≡_ {A = Run Stop Meter Value} (going (numeric (span (a .interval) (b .interval))) (meter k mw (live - m - n) me))
+          (going (numeric (span (p .first .bound .interval) (p .second .bound .interval))) (meter k mw (live - entriesOf (p .second) - entriesOf (p .first)) me))
+      spans p ea en eb em = rw (← ea, ← en, ← eb, ← em) refl
 
 -- ---- a value that was made meets a slot
 

@@ -1,4 +1,5 @@
 //! The values of a rule's slots before guards (`rule` of transfer.rs, as far as the bindings): three passes over the bindings.
+use evaluation::Pair;
 use interval::Interval;
 use lattice::Abstract;
 use lattice::Made;
@@ -65,7 +66,7 @@ fn ranged(
 ) -> Made
     ensures { λ r. ⌜ made r «max_work» «max_entries» ≡ ranged (input (now (nodes .entry)) (now (constants .entry)) width) (now (cells .entry)) low high (meter work «max_work» entries «max_entries») ⌝ }
 {
-    let ends = evaluation::both(
+    match evaluation::both(
         nodes,
         constants,
         width,
@@ -78,28 +79,22 @@ fn ranged(
         max_work,
         entries,
         max_entries,
-    );
-    let outcome = ends.outcome;
-    let first = ends.first;
-    let second = ends.second;
-    match outcome {
-        Outcome::Stopped(_) => Made {
-            outcome,
-            value: first,
-            work: ends.work,
-            entries: ends.entries,
+    ) {
+        Pair::Stopped(stop, w, e) => Made {
+            outcome: Outcome::Stopped(stop),
+            value: Abstract::bottom(),
+            work: w,
+            entries: e,
         },
-        Outcome::Done => {
-            let a = first.bound;
-            let b = second.bound;
+        Pair::To(a, n, b, m, w, e) => {
             let from = a.interval;
             let to = b.interval;
-            let kept = limits::release(ends.entries, rows::entries_of(second));
+            let kept = limits::release(e, m);
             Made {
-                outcome,
+                outcome: Outcome::Done,
                 value: Abstract::numeric(operators::span(from, to)),
-                work: ends.work,
-                entries: limits::release(kept, rows::entries_of(first)),
+                work: w,
+                entries: limits::release(kept, n),
             }
         }
     }

@@ -1,7 +1,7 @@
 -- What the code of guards answers, with the tables that it leaves, is what the definitions say, over plain variables: one law for each way out.
 use Prim.Native.Nat.{ℕ, suc, _+_, _-_, _<_, _≤_}
 use native.Mathlib.Omega.{arith}
-use mathlib.Core.Path.{_≡_, sym, ap, ap₂, _∙_}
+use mathlib.Core.Path.{_≡_, refl, sym, ap, ap₂, _∙_}
 use mathlib.Core.Bool.{Bool, true, false, _&&_, not}
 use mathlib.Core.List.{List}
 use lib.IntN.{ℤ}
@@ -21,9 +21,9 @@ use Rattle.limits.proofs.Monad.{bind-stop, bind-on, then-stop, then-on, through
 use Rattle.limits.proofs.Onward.{Onward, onward-begins, onward-ends, bind-stops, bind-goes}
 use Rattle.limits.proofs.CodeLaws.{work-paid, work-stopped}
 use Rattle.interval.specs.declared.Interval.{Interval}
+use Rattle.interval.specs.declared.Bound.{Bound}
 use Rattle.interval.specs.Interval.{endpointsOf}
-use Rattle.lattice.specs.declared.Outcome.the-variants as outcome
-use Rattle.lattice.specs.Value.{Value, valueOf}
+use Rattle.lattice.specs.Value.{Value}
 use Rattle.rows.specs.Row.{entriesOf, valueAt}
 use Rattle.rules.specs.declared.Relation.{Relation}
 use Rattle.rules.specs.declared.Guard.{Guard}
@@ -42,16 +42,18 @@ use Rattle.refinements.specs.declared.Noted.the-variants as noted
 use Rattle.refinements.specs.Refinement.{notes, refinementsOf, integer?, note}
 use Rattle.refinements.specs.Answers.{onTable, NotesAs}
 use Rattle.evaluation.specs.declared.Pair.{Pair}
+use Rattle.evaluation.specs.declared.Pair.the-variants as pair
 use Rattle.operators.specs.Arithmetic.{span}
 use Rattle.evaluation.specs.Evaluation.{Input, knownIdentity, both}
-use Rattle.evaluation.specs.Answers.{paired}
+use Rattle.evaluation.specs.Answers.{seesBoth, pairTo}
+use Rattle.evaluation.proofs.CodeLaws.{Sights, sights, pair-halted}
 use Rattle.affine.specs.declared.Affine.{Affine}
 use Rattle.affine.specs.declared.Affine.the-variants.{None, Sum, Difference, Reversed}
 use Rattle.guards.specs.declared.Refined.{Refined}
 use Rattle.guards.specs.declared.Refined.the-variants.{Done, Stopped}
 use Rattle.affine.specs.Affine.{flippedOf, restricted, neq?, affine, solvedSum, solvedDifference, solvedReversed}
 use Rattle.guards.specs.Guards.{Local, local, paying, inSlots, inNotes, dropping, holdingProduced, narrowSlot, narrowKnown, refineOperand, refineBoth, narrowing?, compared, withBoth, member, guardOne, guardStep, guardAll, guard}
-use Rattle.guards.specs.Answers.{refined, Refines, Members, Drops}
+use Rattle.guards.specs.Answers.{bare, refined, Refines, Members, Drops}
 
 -- ---- one computation after another
 
@@ -180,33 +182,53 @@ module _ (nodes constants : List ℕ) (n left : ℕ) (relation : Relation) (righ
 
 -- ---- while two values are live
 
-module _ (a b : Value) {x : Refined} {n kept m live : ℕ} (en : n ≡ entriesOf b) (em : m ≡ entriesOf a) (el : live ≡ kept - m) where
-  pub drop-stopped : {s : Stop} {w e : ℕ} → x ≡ Stopped s w e → kept ≡ e - n → Drops a b x (Stopped s w live)
+module _ (n m : ℕ) {x : Refined} {kept live : ℕ} (el : live ≡ kept - n) where
+  pub drop-stopped : {s : Stop} {w e : ℕ} → x ≡ Stopped s w e → kept ≡ e - m → Drops n m x (Stopped s w live)
   unfolding mapped
-  drop-stopped q ek = record { at = λ p r mw me. rw (q, el, ek, en, em) }
+  drop-stopped q ek = record { at = λ p r mw me. rw (q, el, ek) }
 
-  pub drop-done : {k w e : ℕ} → x ≡ Done k w e → kept ≡ e - n → Drops a b x (Done k w live)
+  pub drop-done : {k w e : ℕ} → x ≡ Done k w e → kept ≡ e - m → Drops n m x (Done k w live)
   unfolding mapped
-  drop-done q ek = record { at = λ p r mw me. rw (q, el, ek, en, em) }
+  drop-done q ek = record { at = λ p r mw me. rw (q, el, ek) }
 
-module _ (i : Input) (n left right : ℕ) (f : Value → Value → Metered Stop Local ℕ) {w mw e me : ℕ} {p r : List ℕ} (x : Pair)
-    (h : paired x mw me ≡ both i p (refinementsOf r n) left right (meter w mw e me)) where
-  pub with-stopped : {s : Stop} → x .outcome ≡ outcome.Stopped s → Refines (withBoth i n left right f) (meter w mw e me) p r (Stopped s (x .work) (x .entries)) p r
-  unfolding withBoth
-  with-stopped q = record { is = bind-stop (paying (both i p (refinementsOf r n) left right)) _ _ (through-stop _ _ _ _ (both i p (refinementsOf r n) left right) (local (meter w mw e me) p r) (rw q at h)) }
+-- of two values no more than their bounds is asked
+abbrev pub ByBounds : (Value → Value → Metered Stop Local ℕ) → Type 0
+ByBounds f = (u v : Value) → f (bare (u .bound)) (bare (v .bound)) ≡ f u v
 
-  pub with-done : {y z : Refined} {p′ r′ : List ℕ} → x .outcome ≡ outcome.Done → Refines (f (valueOf (x .first)) (valueOf (x .second))) (meter (x .work) mw (x .entries) me) p r y p′ r′ →
-      Drops (valueOf (x .first)) (valueOf (x .second)) y z → Refines (withBoth i n left right f) (meter w mw e me) p r z p′ r′
+pub compared-bounds : (nodes constants : List ℕ) (n left : ℕ) (relation : Relation) (right : ℕ) → ByBounds (compared nodes constants n left relation right)
+unfolding compared
+compared-bounds nodes constants n left relation right u v = refl
+
+pub member-bounds : (constants : List ℕ) (n slot : ℕ) → ByBounds (member constants n slot)
+unfolding member
+member-bounds constants n slot u v = refl
+
+module _ (i : Input) (n left right : ℕ) (f : Value → Value → Metered Stop Local ℕ) (asks : ByBounds f) {w mw e me : ℕ} {p r : List ℕ} {x : Pair}
+    (h : pairTo x mw me ≡ seesBoth (both i p (refinementsOf r n) left right (meter w mw e me))) where
+  pub with-stopped : {s : Stop} {k live : ℕ} → x ≡ pair.Stopped s k live → Refines (withBoth i n left right f) (meter w mw e me) p r (Stopped s k live) p r
   unfolding withBoth
-  with-done {p′ = p′} {r′ = r′} q g d =
-      let a = valueOf (x .first) in
-      let b = valueOf (x .second) in
+  with-stopped q = record {
+    is = bind-stop (paying (both i p (refinementsOf r n) left right)) _ _ (through-stop _ _ _ _ (both i p (refinementsOf r n) left right) (local (meter w mw e me) p r) (pair-halted h q));
+  }
+
+  pub with-done : {a b : Bound} {size more k live : ℕ} {y z : Refined} {p′ r′ : List ℕ} → x ≡ pair.To a size b more k live → Refines (f (bare a) (bare b)) (meter k mw live me) p r y p′ r′ →
+      Drops size more y z → Refines (withBoth i n left right f) (meter w mw e me) p r z p′ r′
+  unfolding withBoth
+  with-done {a} {b} {size} {more} {k} {live} {y} {z} {p′} {r′} q g d =
+      let s : Sights (both i p (refinementsOf r n) left right (meter w mw e me)) a size b more (meter k mw live me) = sights h q in
       record {
-        is = bind-on (paying (both i p (refinementsOf r n) left right)) _ _ (through-on _ _ _ _ (both i p (refinementsOf r n) left right) (local (meter w mw e me) p r) (rw q at h))
-            (d .at p′ r′ mw me
-            ∙ through-is _ _ _ _ (dropping b (f a b)) (local (meter (x .work) mw (x .entries) me) p r)
-            (through-is _ _ _ _ (f a b) (local (meter (x .work) mw (x .entries) me) p r) (g .is)));
+        is = bind-on (paying (both i p (refinementsOf r n) left right)) _ _ (through-on _ _ _ _ (both i p (refinementsOf r n) left right) (local (meter w mw e me) p r) (s .is))
+            (ends (s .pair .first) (s .pair .second) (s .first-bound) (s .first-entries) (s .second-bound) (s .second-entries));
       }
+    where
+      ends : (u v : Value) → u .bound ≡ a → entriesOf u ≡ size → v .bound ≡ b → entriesOf v ≡ more →
+          refined z p′ r′ mw me ≡ dropping u (dropping v (f u v)) (local (meter k mw live me) p r)
+      ends u v ea en eb em =
+          d .at p′ r′ mw me
+          ∙ rw (← en, ← em)
+          (through-is _ _ _ _ (dropping v (f u v)) (local (meter k mw live me) p r)
+          (through-is _ _ _ _ (f u v) (local (meter k mw live me) p r)
+          (g .is ∙ ap₂ (λ (a b : Bound). f (bare a) (bare b) (local (meter k mw live me) p r)) (sym ea) (sym eb) ∙ ap (λ (m : Metered Stop Local ℕ). m (local (meter k mw live me) p r)) (asks u v))))
 
 -- where refinements stay as they are
 pub refines-member : {m : Metered Stop Local ℕ} {at : Meter} {p p′ : List ℕ} {x : Refined} (r : List ℕ) → Members m at p x p′ → Refines m at p r x p′ r
@@ -214,10 +236,10 @@ refines-member r h = record { is = h .is r }
 
 -- ---- a slot between two values
 
-module _ (constants : List ℕ) (n slot : ℕ) (a b : Value) (w mw e me : ℕ) (p : List ℕ) {own : Value} (v : own ≡ valueAt p slot) {t : Bool} (h : t ≡ integer? own) where
+module _ (constants : List ℕ) (n slot : ℕ) (a b : Value) (w mw e me : ℕ) (p : List ℕ) {own : Bound} (v : own ≡ valueAt p slot .bound) {t : Bool} (h : t ≡ integer? (bare own)) where
   -- by the test
   tested : {u : Bool} → u ≡ (t && (integer? a && integer? b)) → u ≡ (integer? (valueAt p slot) && (integer? a && integer? b))
-  tested d = d ∙ ap (λ (s : Bool). s && (integer? a && integer? b)) (h ∙ ap integer? v)
+  tested d = d ∙ ap (λ (s : Bool). s && (integer? a && integer? b)) (h ∙ ap (λ (c : Bound). integer? (bare c)) v)
 
   member-no : false ≡ (t && (integer? a && integer? b)) → Members (member constants n slot a b) (meter w mw e me) p (Done n w e) p
   unfolding member

@@ -2,14 +2,20 @@
 use Prim.Native.Nat.{ℕ}
 use mathlib.Core.Path.{_≡_}
 use mathlib.Core.List.{List}
+use mathlib.Core.Option.{none}
 use Rattle.limits.specs.declared.Stop.{Stop}
 use Rattle.limits.specs.Metered.{Run, going, stopped, Metered, mapped}
 use Rattle.limits.specs.Meter.{Meter, meter}
 use Rattle.guards.specs.declared.Refined.{Refined}
 use Rattle.guards.specs.declared.Refined.the-variants.{Done, Stopped}
-use Rattle.lattice.specs.Value.{Value}
-use Rattle.rows.specs.Row.{entriesOf}
+use Rattle.interval.specs.declared.Bound.{Bound}
+use Rattle.lattice.specs.declared.Reason.the-variants.{None}
+use Rattle.lattice.specs.Value.{Value, value}
 use Rattle.guards.specs.Guards.{Local, local, fewer}
+
+-- a value with this bound: guards ask for no more
+abbrev pub bare : Bound → Value
+bare b = value b none None
 
 abbrev pub refined : Refined → List ℕ → List ℕ → ℕ → ℕ → Run Stop Local ℕ
 refined (Done n w e) produced refinements mw me = going n (local (meter w mw e me) produced refinements)
@@ -23,7 +29,7 @@ pub record Refines (m : Metered Stop Local ℕ) (at : Meter) (produced refinemen
 pub record Members (m : Metered Stop Local ℕ) (at : Meter) (produced : List ℕ) (r : Refined) (produced′ : List ℕ) : Type 0 where
   pub is : (refinements : List ℕ) → refined r produced′ refinements (at .maxWork) (at .maxEntries) ≡ m (local at produced refinements)
 
--- two values are dropped, whichever way it has ended
-pub record Drops (a b : Value) (x r : Refined) : Type 0 where
+-- two values of n and m entries are dropped, whichever way it has ended
+pub record Drops (n m : ℕ) (x r : Refined) : Type 0 where
   pub at : (produced refinements : List ℕ) (mw me : ℕ) →
-      refined r produced refinements mw me ≡ mapped (fewer (entriesOf a)) (fewer (entriesOf a)) (λ e. e) (mapped (fewer (entriesOf b)) (fewer (entriesOf b)) (λ e. e) (refined x produced refinements mw me))
+      refined r produced refinements mw me ≡ mapped (fewer n) (fewer n) (λ e. e) (mapped (fewer m) (fewer m) (λ e. e) (refined x produced refinements mw me))

@@ -1,9 +1,10 @@
 //! The values of a rule's slots after guards (`rule` of transfer.rs from the copies on, with `refine_comparison` and `refine_operand`). What a
 //! guard finds of its operands is recorded, and narrows slots where an operand is a slot and a literal.
 use affine::Affine;
+use evaluation::Pair;
+use interval::Bound;
+use interval::Integrality;
 use interval::Interval;
-use lattice::Abstract;
-use lattice::Outcome;
 use limits::Charged;
 use limits::Resource;
 use limits::Stop;
@@ -14,13 +15,13 @@ use rules::Relation;
 use slots::Counted;
 ghost use mathlib.Core.Path.{_≡_};
 ghost use Rattle.limits.specs.Meter.{meter};
-ghost use Rattle.lattice.specs.Value.{valueOf};
 ghost use Rattle.rules.specs.Read.{slotsAt, guardsAt};
 ghost use Rattle.slots.specs.Slots.{slots};
 ghost use Rattle.slots.specs.Answers.{counted};
 ghost use Rattle.evaluation.specs.Evaluation.{input};
 ghost use Rattle.guards.specs.Guards.{narrowSlot, narrowKnown, refineOperand, refineBoth, compared, comparison, member, membership, narrowing?, guardStep, guardAll, guard};
-ghost use Rattle.guards.specs.Answers.{Refines, Members, Drops};
+ghost use Rattle.refinements.specs.Refinement.{integer?};
+ghost use Rattle.guards.specs.Answers.{bare, Refines, Members, Drops};
 
 // How many refinements are recorded, with the counts after it: work and live entries.
 pub enum Refined {
@@ -193,14 +194,25 @@ fn refine_both(
     }
 }
 
-// Whether a comparison narrows.
-fn is_narrowing(relation: Relation, a: Abstract, b: Abstract) -> bool
-    ensures { λ r. ⌜ r ≡ narrowing? relation (valueOf a) (valueOf b) ⌝ }
+// Whether a value with this bound has numbers alone.
+fn is_integer(bound: Bound) -> bool
+    ensures { λ r. ⌜ r ≡ integer? (bare bound) ⌝ }
 {
-    if !refinements::is_integer(a) {
+    let integrality = bound.integrality;
+    match integrality {
+        Integrality::Integer => true,
+        Integrality::Mixed => false,
+    }
+}
+
+// Whether a comparison narrows.
+fn is_narrowing(relation: Relation, a: Bound, b: Bound) -> bool
+    ensures { λ r. ⌜ r ≡ narrowing? relation (bare a) (bare b) ⌝ }
+{
+    if !is_integer(a) {
         return false;
     }
-    if !refinements::is_integer(b) {
+    if !is_integer(b) {
         return false;
     }
     !affine::is_neq(relation)
@@ -214,8 +226,8 @@ fn compare(
     left: u64,
     relation: Relation,
     right: u64,
-    a: Abstract,
-    b: Abstract,
+    a: Bound,
+    b: Bound,
     nodes: &[u64],
     constants: &[u32],
     work: u64,
@@ -223,13 +235,11 @@ fn compare(
     entries: u64,
     max_entries: u64,
 ) -> Refined
-    ensures { λ r. ⌜ Refines (compared (now (nodes .entry)) (now (constants .entry)) count left relation right (valueOf a) (valueOf b)) (meter work «max_work» entries «max_entries») (now (produced .entry)) (now (refinements .entry)) r (now (produced .exit)) (now (refinements .exit)) ⌝ }
+    ensures { λ r. ⌜ Refines (compared (now (nodes .entry)) (now (constants .entry)) count left relation right (bare a) (bare b)) (meter work «max_work» entries «max_entries») (now (produced .entry)) (now (refinements .entry)) r (now (produced .exit)) (now (refinements .exit)) ⌝ }
 {
     if is_narrowing(relation, a, b) {
-        let x = a.bound;
-        let y = b.bound;
-        let own = x.interval;
-        let other = y.interval;
+        let own = a.interval;
+        let other = b.interval;
         return refine_both(
             produced,
             refinements,
@@ -249,18 +259,18 @@ fn compare(
     Refined::Done(count, work, entries)
 }
 
-// Two values are dropped, whichever way a guard has ended.
-fn drop_pair(refined: Refined, a: Abstract, b: Abstract) -> Refined
-    ensures { λ r. ⌜ Drops (valueOf a) (valueOf b) refined r ⌝ }
+// Two values of so many entries are dropped, whichever way a guard has ended.
+fn drop_pair(refined: Refined, listed: u64, more: u64) -> Refined
+    ensures { λ r. ⌜ Drops listed more refined r ⌝ }
 {
     match refined {
         Refined::Stopped(stop, w, e) => {
-            let kept = limits::release(e, rows::entries_of(b));
-            Refined::Stopped(stop, w, limits::release(kept, rows::entries_of(a)))
+            let kept = limits::release(e, more);
+            Refined::Stopped(stop, w, limits::release(kept, listed))
         }
         Refined::Done(n, w, e) => {
-            let kept = limits::release(e, rows::entries_of(b));
-            Refined::Done(n, w, limits::release(kept, rows::entries_of(a)))
+            let kept = limits::release(e, more);
+            Refined::Done(n, w, limits::release(kept, listed))
         }
     }
 }
@@ -283,7 +293,7 @@ fn comparison(
 ) -> Refined
     ensures { λ r. ⌜ Refines (comparison (input (now (nodes .entry)) (now (constants .entry)) width) count left relation right) (meter work «max_work» entries «max_entries») (now (produced .entry)) (now (refinements .entry)) r (now (produced .exit)) (now (refinements .exit)) ⌝ }
 {
-    let pair = evaluation::both(
+    match evaluation::both(
         nodes,
         constants,
         width,
@@ -296,11 +306,9 @@ fn comparison(
         max_work,
         entries,
         max_entries,
-    );
-    let outcome = pair.outcome;
-    match outcome {
-        Outcome::Stopped(stop) => Refined::Stopped(stop, pair.work, pair.entries),
-        Outcome::Done => drop_pair(
+    ) {
+        Pair::Stopped(stop, w, e) => Refined::Stopped(stop, w, e),
+        Pair::To(a, n, b, m, w, e) => drop_pair(
             compare(
                 produced,
                 refinements,
@@ -308,17 +316,17 @@ fn comparison(
                 left,
                 relation,
                 right,
-                pair.first,
-                pair.second,
+                a,
+                b,
                 nodes,
                 constants,
-                pair.work,
+                w,
                 max_work,
-                pair.entries,
+                e,
                 max_entries,
             ),
-            pair.first,
-            pair.second,
+            n,
+            m,
         ),
     }
 }
@@ -328,30 +336,28 @@ fn member(
     produced: &mut [u32],
     count: usize,
     slot: usize,
-    a: Abstract,
-    b: Abstract,
+    a: Bound,
+    b: Bound,
     constants: &[u32],
     work: u64,
     max_work: u64,
     entries: u64,
     max_entries: u64,
 ) -> Refined
-    ensures { λ r. ⌜ Members (member (now (constants .entry)) count slot (valueOf a) (valueOf b)) (meter work «max_work» entries «max_entries») (now (produced .entry)) r (now (produced .exit)) ⌝ }
+    ensures { λ r. ⌜ Members (member (now (constants .entry)) count slot (bare a) (bare b)) (meter work «max_work» entries «max_entries») (now (produced .entry)) r (now (produced .exit)) ⌝ }
 {
-    let own = rows::abstract_at(produced, slot);
-    if !refinements::is_integer(own) {
+    let own = rows::bound_at(produced, slot);
+    if !is_integer(own) {
         return Refined::Done(count, work, entries);
     }
-    if !refinements::is_integer(a) {
+    if !is_integer(a) {
         return Refined::Done(count, work, entries);
     }
-    if !refinements::is_integer(b) {
+    if !is_integer(b) {
         return Refined::Done(count, work, entries);
     }
-    let x = a.bound;
-    let y = b.bound;
-    let low = x.interval;
-    let high = y.interval;
+    let low = a.interval;
+    let high = b.interval;
     match slots::refine_into(
         produced,
         slot,
@@ -385,7 +391,7 @@ fn membership(
 ) -> Refined
     ensures { λ r. ⌜ Refines (membership (input (now (nodes .entry)) (now (constants .entry)) width) count slot low high) (meter work «max_work» entries «max_entries») (now (produced .entry)) (now (refinements .entry)) r (now (produced .exit)) (now (refinements .exit)) ⌝ }
 {
-    let pair = evaluation::both(
+    match evaluation::both(
         nodes,
         constants,
         width,
@@ -398,25 +404,23 @@ fn membership(
         max_work,
         entries,
         max_entries,
-    );
-    let outcome = pair.outcome;
-    match outcome {
-        Outcome::Stopped(stop) => Refined::Stopped(stop, pair.work, pair.entries),
-        Outcome::Done => drop_pair(
+    ) {
+        Pair::Stopped(stop, w, e) => Refined::Stopped(stop, w, e),
+        Pair::To(a, n, b, m, w, e) => drop_pair(
             member(
                 produced,
                 count,
                 slot,
-                pair.first,
-                pair.second,
+                a,
+                b,
                 constants,
-                pair.work,
+                w,
                 max_work,
-                pair.entries,
+                e,
                 max_entries,
             ),
-            pair.first,
-            pair.second,
+            n,
+            m,
         ),
     }
 }

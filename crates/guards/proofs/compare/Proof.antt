@@ -1,7 +1,7 @@
 -- `guards::compare` meets its contract.
 use borrow.Author.Needs.{needs}
-use Rattle.lattice.specs.Value.{valueOf}
 use Rattle.guards.proofs.CodeLaws.{compared-yes, compared-no}
+use Rattle.guards.specs.Answers.{bare}
 use Rattle.guards.proofs.compare.Statement.{statement}
 use Rattle.guards.proofs.compare.Tie as tie
 
@@ -32,17 +32,18 @@ returns c =
     let c₅ = c₄ .before in
     let c₆ = c₅ .before in
     let c₇ = c₆ .before in
-    let c₁₂ = c₇ .before .before .before .before .before in
-    let c₁₃ = c₁₂ .before in
-    let c₁₈ = c₁₃ .before .before .before .before .before in
-    let a = c₁₈ .args in
-    compared-yes (a .nodes .now) (a .constants .now) (a .count) (a .left) (a .relation) (a .right) (valueOf (a .a)) (valueOf (a .b)) (c₁₃ .is-narrowing .ensures) (c₁₂ .if1 .taken) (c₇ .restricted .ensures) (c₆ .flipped .ensures) (c₅ .restricted2 .ensures) (c₄ .refine-both .ensures)
+    let c₁₀ = c₇ .before .before .before in
+    let c₁₁ = c₁₀ .before in
+    let c₁₆ = c₁₁ .before .before .before .before .before in
+    let a = c₁₆ .args in
+    compared-yes (a .nodes .now) (a .constants .now) (a .count) (a .left) (a .relation) (a .right) (bare (a .a)) (bare (a .b)) (c₁₁ .is-narrowing .ensures) (c₁₀ .if1 .taken) (c₇ .restricted .ensures) (c₆ .flipped .ensures) (c₅ .restricted2 .ensures) (c₄ .refine-both .ensures)
 
 returns-2 : tie.Need-returns-2
 returns-2 c =
-    let c₆ = c .before .before .before .before .before .before in
+    let c₁ = c .before in
+    let c₆ = c₁ .before .before .before .before .before in
     let a = c₆ .args in
-    compared-no (a .nodes .now) (a .constants .now) (a .count) (a .left) (a .relation) (a .right) (valueOf (a .a)) (valueOf (a .b)) (c .before .is-narrowing .ensures) (c .if1 .left)
+    compared-no (a .nodes .now) (a .constants .now) (a .count) (a .left) (a .relation) (a .right) (bare (a .a)) (bare (a .b)) (c₁ .is-narrowing .ensures) (c .if1 .left)
 
 pub compare-spec : {M : Type 1} → statement M
 compare-spec =

@@ -1,13 +1,13 @@
 -- `guards::member` meets its contract.
 use borrow.Author.Needs.{needs}
 use borrow.Author.Tests.{not-true, not-false}
-use Rattle.lattice.specs.Value.{valueOf}
 use Rattle.guards.proofs.CodeLaws.{own-named, low-named, high-named, member-stopped, member-done}
+use Rattle.guards.specs.Answers.{bare}
 use Rattle.guards.proofs.member.Statement.{statement}
 use Rattle.guards.proofs.member.Tie as tie
 
-abstract-at-requires : tie.Need-abstract-at-requires
-abstract-at-requires c κs = search needs
+bound-at-requires : tie.Need-bound-at-requires
+bound-at-requires c κs = search needs
 
 is-integer-requires : tie.Need-is-integer-requires
 is-integer-requires c κs = search needs
@@ -17,10 +17,11 @@ same-length c = search needs
 
 returns : tie.Need-returns
 returns c =
-    let c₂ = c .before .before in
+    let c₁ = c .before in
+    let c₂ = c₁ .before in
     let c₆ = c₂ .before .before .before .before in
     let a = c₆ .args in
-    own-named (a .constants .now) (a .count) (a .slot) (valueOf (a .a)) (valueOf (a .b)) (a .work) (a .max-work) (a .entries) (a .max-entries) (a .produced .now) (c₂ .abstract-at .ensures) (c .before .is-integer .ensures) (not-true _ (c .if1 .taken))
+    own-named (a .constants .now) (a .count) (a .slot) (bare (a .a)) (bare (a .b)) (a .work) (a .max-work) (a .entries) (a .max-entries) (a .produced .now) (c₂ .bound-at .ensures) (c₁ .is-integer .ensures) (not-true _ (c .if1 .taken))
 
 is-integer-requires-2 : tie.Need-is-integer-requires-2
 is-integer-requires-2 c κs = search needs
@@ -30,12 +31,13 @@ same-length-2 c = search needs
 
 returns-2 : tie.Need-returns-2
 returns-2 c =
-    let c₂ = c .before .before in
+    let c₁ = c .before in
+    let c₂ = c₁ .before in
     let c₃ = c₂ .before in
     let c₄ = c₃ .before in
     let c₈ = c₄ .before .before .before .before in
     let a = c₈ .args in
-    low-named (a .constants .now) (a .count) (a .slot) (valueOf (a .a)) (valueOf (a .b)) (a .work) (a .max-work) (a .entries) (a .max-entries) (a .produced .now) (c₄ .abstract-at .ensures) (c₃ .is-integer .ensures) (not-false _ (c₂ .if1 .left)) (c .before .is-integer2 .ensures) (not-true _ (c .if2 .taken))
+    low-named (a .constants .now) (a .count) (a .slot) (bare (a .a)) (bare (a .b)) (a .work) (a .max-work) (a .entries) (a .max-entries) (a .produced .now) (c₄ .bound-at .ensures) (c₃ .is-integer .ensures) (not-false _ (c₂ .if1 .left)) (c₁ .is-integer2 .ensures) (not-true _ (c .if2 .taken))
 
 is-integer-requires-3 : tie.Need-is-integer-requires-3
 is-integer-requires-3 c κs = search needs
@@ -45,14 +47,15 @@ same-length-3 c = search needs
 
 returns-3 : tie.Need-returns-3
 returns-3 c =
-    let c₂ = c .before .before in
+    let c₁ = c .before in
+    let c₂ = c₁ .before in
     let c₃ = c₂ .before in
     let c₄ = c₃ .before in
     let c₅ = c₄ .before in
     let c₆ = c₅ .before in
     let c₁₀ = c₆ .before .before .before .before in
     let a = c₁₀ .args in
-    high-named (a .constants .now) (a .count) (a .slot) (valueOf (a .a)) (valueOf (a .b)) (a .work) (a .max-work) (a .entries) (a .max-entries) (a .produced .now) (c₆ .abstract-at .ensures) (c₅ .is-integer .ensures) (not-false _ (c₄ .if1 .left)) (c₃ .is-integer2 .ensures) (not-false _ (c₂ .if2 .left)) (c .before .is-integer3 .ensures) (not-true _ (c .if3 .taken))
+    high-named (a .constants .now) (a .count) (a .slot) (bare (a .a)) (bare (a .b)) (a .work) (a .max-work) (a .entries) (a .max-entries) (a .produced .now) (c₆ .bound-at .ensures) (c₅ .is-integer .ensures) (not-false _ (c₄ .if1 .left)) (c₃ .is-integer2 .ensures) (not-false _ (c₂ .if2 .left)) (c₁ .is-integer3 .ensures) (not-true _ (c .if3 .taken))
 
 span-requires : tie.Need-span-requires
 span-requires c κs = search needs
@@ -71,42 +74,44 @@ same-length-4 c = search needs
 
 returns-4 : tie.Need-returns-4
 returns-4 c =
-    let c₅ = c .before .before .before .before .before in
+    let c₁ = c .before in
+    let c₅ = c₁ .before .before .before .before in
     let c₆ = c₅ .before in
-    let c₁₀ = c₆ .before .before .before .before in
+    let c₈ = c₆ .before .before in
+    let c₉ = c₈ .before in
+    let c₁₀ = c₉ .before in
     let c₁₁ = c₁₀ .before in
     let c₁₂ = c₁₁ .before in
     let c₁₃ = c₁₂ .before in
     let c₁₄ = c₁₃ .before in
-    let c₁₅ = c₁₄ .before in
-    let c₁₆ = c₁₅ .before in
-    let c₂₀ = c₁₆ .before .before .before .before in
-    let a = c₂₀ .args in
-    member-stopped (a .constants .now) (a .count) (a .slot) (valueOf (a .a)) (valueOf (a .b)) (a .work) (a .max-work) (a .entries) (a .max-entries) (a .produced .now) (c₁₆ .abstract-at .ensures) (c₁₅ .is-integer .ensures) (not-false _ (c₁₄ .if1 .left)) (c₁₃ .is-integer2 .ensures) (not-false _ (c₁₂ .if2 .left)) (c₁₁ .is-integer3 .ensures) (not-false _ (c₁₀ .if3 .left)) (c₆ .span .ensures) _ _ (c₅ .refine-into .ensures) (c .before .stop .given .1)
+    let c₁₈ = c₁₄ .before .before .before .before in
+    let a = c₁₈ .args in
+    member-stopped (a .constants .now) (a .count) (a .slot) (bare (a .a)) (bare (a .b)) (a .work) (a .max-work) (a .entries) (a .max-entries) (a .produced .now) (c₁₄ .bound-at .ensures) (c₁₃ .is-integer .ensures) (not-false _ (c₁₂ .if1 .left)) (c₁₁ .is-integer2 .ensures) (not-false _ (c₁₀ .if2 .left)) (c₉ .is-integer3 .ensures) (not-false _ (c₈ .if3 .left)) (c₆ .span .ensures) _ _ (c₅ .refine-into .ensures) (c₁ .stop .given .1)
 
 same-length-5 : tie.Need-same-length-5
 same-length-5 c = search needs
 
 returns-5 : tie.Need-returns-5
 returns-5 c =
-    let c₅ = c .before .before .before .before .before in
+    let c₁ = c .before in
+    let c₅ = c₁ .before .before .before .before in
     let c₆ = c₅ .before in
-    let c₁₀ = c₆ .before .before .before .before in
+    let c₈ = c₆ .before .before in
+    let c₉ = c₈ .before in
+    let c₁₀ = c₉ .before in
     let c₁₁ = c₁₀ .before in
     let c₁₂ = c₁₁ .before in
     let c₁₃ = c₁₂ .before in
     let c₁₄ = c₁₃ .before in
-    let c₁₅ = c₁₄ .before in
-    let c₁₆ = c₁₅ .before in
-    let c₂₀ = c₁₆ .before .before .before .before in
-    let a = c₂₀ .args in
-    member-done (a .constants .now) (a .count) (a .slot) (valueOf (a .a)) (valueOf (a .b)) (a .work) (a .max-work) (a .entries) (a .max-entries) (a .produced .now) (c₁₆ .abstract-at .ensures) (c₁₅ .is-integer .ensures) (not-false _ (c₁₄ .if1 .left)) (c₁₃ .is-integer2 .ensures) (not-false _ (c₁₂ .if2 .left)) (c₁₁ .is-integer3 .ensures) (not-false _ (c₁₀ .if3 .left)) (c₆ .span .ensures) _ _ (c₅ .refine-into .ensures) (c .before .w .given .1)
+    let c₁₈ = c₁₄ .before .before .before .before in
+    let a = c₁₈ .args in
+    member-done (a .constants .now) (a .count) (a .slot) (bare (a .a)) (bare (a .b)) (a .work) (a .max-work) (a .entries) (a .max-entries) (a .produced .now) (c₁₄ .bound-at .ensures) (c₁₃ .is-integer .ensures) (not-false _ (c₁₂ .if1 .left)) (c₁₁ .is-integer2 .ensures) (not-false _ (c₁₀ .if2 .left)) (c₉ .is-integer3 .ensures) (not-false _ (c₈ .if3 .left)) (c₆ .span .ensures) _ _ (c₅ .refine-into .ensures) (c₁ .w .given .1)
 
 pub member-spec : {M : Type 1} → statement M
 member-spec =
     tie.close
     (tie.spec
-    abstract-at-requires
+    bound-at-requires
     is-integer-requires
     same-length
     returns
