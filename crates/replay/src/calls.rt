@@ -5,6 +5,15 @@ use crate::parts::ReadInterval;
 use crate::parts::ReadLimits;
 use crate::parts::ReadPair;
 use crate::parts::ReadRule;
+use crate::tables::Arguments;
+use crate::tables::Buffer;
+use crate::tables::Constants;
+use crate::tables::Nodes;
+use crate::tables::Order;
+use crate::tables::Predicates;
+use crate::tables::Records;
+use crate::tables::Rules;
+use crate::tables::Thresholds;
 use crate::words::Cursor;
 use crate::words::ReadNumber;
 use crate::words::ReadSigned;
@@ -37,77 +46,78 @@ impl Session {
     }
 
     // A call without an id is answered.
-    pub fn done(self, cursor: Cursor, done: Done, output: &mut [u8]) -> Session {
+    pub fn done(at: usize, cursor: Cursor, done: Done, output: &mut Buffer) -> Session {
         match done {
             Done::Ok(store) => {
-                let at = lines::ok(output, self.at);
+                let at = lines::ok(output, at);
                 Session { cursor, store, at }
             }
             Done::Refused(refusal, store) => {
-                let at = lines::refused(output, self.at, refusal);
+                let at = lines::refused(output, at, refusal);
                 Session { cursor, store, at }
             }
         }
     }
 
     // A call with an id is answered.
-    pub fn answered(self, cursor: Cursor, answer: Answer, output: &mut [u8]) -> Session {
+    pub fn answered(at: usize, cursor: Cursor, answer: Answer, output: &mut Buffer) -> Session {
         match answer {
             Answer::Id(id, store) => {
-                let at = lines::ok_id(output, self.at, id);
+                let at = lines::ok_id(output, at, id);
                 Session { cursor, store, at }
             }
             Answer::Refused(refusal, store) => {
-                let at = lines::refused(output, self.at, refusal);
+                let at = lines::refused(output, at, refusal);
                 Session { cursor, store, at }
             }
         }
     }
 }
 
-pub fn fresh(session: Session, read: ReadLimits, output: &mut [u8]) -> Session {
+pub fn fresh(session: Session, read: ReadLimits, output: &mut Buffer) -> Session {
     let behind = read.cursor;
-    if behind.bad {
+    if 0 < behind.faults {
         return session.behind(behind);
     }
-    session.done(behind, store::fresh(read.limits), output)
+    Session::done(session.at, behind, store::fresh(read.limits), output)
 }
 
-pub fn context(session: Session, read: ReadNumber, output: &mut [u8]) -> Session {
+pub fn context(session: Session, read: ReadNumber, output: &mut Buffer) -> Session {
     let behind = read.cursor;
     let value = read.value;
     let store = session.store;
-    if behind.bad {
+    if 0 < behind.faults {
         return session.behind(behind);
     }
     if 4294967295 < value {
         return session.behind(behind.spoiled());
     }
-    session.done(behind, store.context(value as u32), output)
+    Session::done(session.at, behind, store.context(value as u32), output)
 }
 
-pub fn work(session: Session, read: ReadNumber, output: &mut [u8]) -> Session {
+pub fn work(session: Session, read: ReadNumber, output: &mut Buffer) -> Session {
     let behind = read.cursor;
     let store = session.store;
-    if behind.bad {
+    if 0 < behind.faults {
         return session.behind(behind);
     }
-    session.done(behind, store.work(read.value), output)
+    Session::done(session.at, behind, store.work(read.value), output)
 }
 
 pub fn predicate(
     session: Session,
     arity: ReadNumber,
-    output: &mut [u8],
-    predicates: &mut [u32],
-    seeds: &mut [u32],
+    output: &mut Buffer,
+    predicates: &mut Predicates,
+    seeds: &mut Arguments,
 ) -> Session {
     let behind = arity.cursor;
     let store = session.store;
-    if behind.bad {
+    if 0 < behind.faults {
         return session.behind(behind);
     }
-    session.answered(
+    Session::answered(
+        session.at,
         behind,
         store.predicate(arity.value, predicates, seeds),
         output,
@@ -117,15 +127,16 @@ pub fn predicate(
 pub fn argument(
     session: Session,
     read: ReadPair,
-    output: &mut [u8],
-    predicates: &[u32],
+    output: &mut Buffer,
+    predicates: &Predicates,
 ) -> Session {
     let behind = read.cursor;
     let store = session.store;
-    if behind.bad {
+    if 0 < behind.faults {
         return session.behind(behind);
     }
-    session.answered(
+    Session::answered(
+        session.at,
         behind,
         store.argument(read.first, read.second, predicates),
         output,
@@ -135,14 +146,14 @@ pub fn argument(
 pub fn number(
     session: Session,
     read: ReadSigned,
-    output: &mut [u8],
-    names: &mut [u8],
-    constants: &mut [u32],
-    order: &mut [u32],
-    thresholds: &mut [i32],
+    output: &mut Buffer,
+    names: &mut Buffer,
+    constants: &mut Constants,
+    order: &mut Order,
+    thresholds: &mut Thresholds,
 ) -> Session {
     let behind = read.cursor;
-    if behind.bad {
+    if 0 < behind.faults {
         return session.behind(behind);
     }
     let answer = constants::constant_number(
@@ -153,7 +164,7 @@ pub fn number(
         order,
         thresholds,
     );
-    session.answered(behind, answer, output)
+    Session::answered(session.at, behind, answer, output)
 }
 
 // A name of as many bytes as were read; no name is longer than the buffer that it was read into.
@@ -161,15 +172,15 @@ pub fn name(
     session: Session,
     len: ReadNumber,
     bytes: &[u8],
-    output: &mut [u8],
-    names: &mut [u8],
-    constants: &mut [u32],
-    order: &mut [u32],
-    thresholds: &mut [i32],
+    output: &mut Buffer,
+    names: &mut Buffer,
+    constants: &mut Constants,
+    order: &mut Order,
+    thresholds: &mut Thresholds,
 ) -> Session {
     let behind = len.cursor;
     let n = len.value as usize;
-    if behind.bad {
+    if 0 < behind.faults {
         return session.behind(behind);
     }
     if bytes.len() < n {
@@ -183,21 +194,22 @@ pub fn name(
         order,
         thresholds,
     );
-    session.answered(behind, answer, output)
+    Session::answered(session.at, behind, answer, output)
 }
 
 pub fn expression(
     session: Session,
     read: ReadExpression,
-    output: &mut [u8],
-    nodes: &mut [u64],
+    output: &mut Buffer,
+    nodes: &mut Nodes,
 ) -> Session {
     let behind = read.cursor;
     let value = read.expression;
-    if behind.bad {
+    if 0 < behind.faults {
         return session.behind(behind);
     }
-    session.answered(
+    Session::answered(
+        session.at,
         behind,
         expressions::expression(session.store, value, nodes),
         output,
@@ -207,13 +219,13 @@ pub fn expression(
 pub fn seed_value(
     session: Session,
     read: ReadPair,
-    output: &mut [u8],
-    constants: &[u32],
-    seeds: &mut [u32],
-    records: &mut [u32],
+    output: &mut Buffer,
+    constants: &Constants,
+    seeds: &mut Arguments,
+    records: &mut Records,
 ) -> Session {
     let behind = read.cursor;
-    if behind.bad {
+    if 0 < behind.faults {
         return session.behind(behind);
     }
     let done = seeds::seed_value(
@@ -224,19 +236,19 @@ pub fn seed_value(
         seeds,
         records,
     );
-    session.done(behind, done, output)
+    Session::done(session.at, behind, done, output)
 }
 
 pub fn seed_interval(
     session: Session,
     read: ReadInterval,
-    output: &mut [u8],
-    seeds: &mut [u32],
-    records: &mut [u32],
-    thresholds: &mut [i32],
+    output: &mut Buffer,
+    seeds: &mut Arguments,
+    records: &mut Records,
+    thresholds: &mut Thresholds,
 ) -> Session {
     let behind = read.cursor;
-    if behind.bad {
+    if 0 < behind.faults {
         return session.behind(behind);
     }
     let done = seeds::seed_interval(
@@ -248,23 +260,24 @@ pub fn seed_interval(
         records,
         thresholds,
     );
-    session.done(behind, done, output)
+    Session::done(session.at, behind, done, output)
 }
 
 pub fn rule(
     session: Session,
     read: ReadRule,
-    output: &mut [u8],
-    nodes: &[u64],
-    rules: &mut [u32],
-    records: &mut [u32],
+    output: &mut Buffer,
+    nodes: &Nodes,
+    rules: &mut Rules,
+    records: &mut Records,
 ) -> Session {
     let behind = read.cursor;
     let rule = read.rule;
-    if behind.bad {
+    if 0 < behind.faults {
         return session.behind(behind);
     }
-    session.answered(
+    Session::answered(
+        session.at,
         behind,
         producers::rule(session.store, rule, nodes, rules, records),
         output,

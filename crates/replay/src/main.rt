@@ -3,12 +3,23 @@ mod calls;
 mod lines;
 mod parts;
 mod readings;
+mod tables;
 mod words;
 
 use calls::Session;
 use limits::Limits;
 use store::Done;
 use store::Store;
+use tables::Arguments;
+use tables::Buffer;
+use tables::Constants;
+use tables::Nodes;
+use tables::Order;
+use tables::Predicates;
+use tables::Records;
+use tables::Rules;
+use tables::Slots;
+use tables::Thresholds;
 use words::Cursor;
 use words::ReadNumber;
 
@@ -32,7 +43,7 @@ fn nothing() -> Store {
 }
 
 // A job begins with a fresh store; any other text, an empty one too, is none.
-fn begin(input: &mut [u8], output: &mut [u8]) -> Session {
+fn begin(input: &mut Buffer, output: &mut Buffer) -> Session {
     let call = words::call(input, Cursor::new());
     let cursor = call.cursor;
     let session = Session {
@@ -47,9 +58,10 @@ fn begin(input: &mut [u8], output: &mut [u8]) -> Session {
 }
 
 // The calls 1 to 3, which need no table.
-fn plain(session: Session, call: u64, input: &mut [u8], output: &mut [u8]) -> Session {
-    let cursor = session.cursor;
-    match call {
+fn plain(session: Session, call: ReadNumber, input: &mut Buffer, output: &mut Buffer) -> Session {
+    let cursor = call.cursor;
+    let number = call.value;
+    match number {
         1 => calls::fresh(session, parts::limits(input, cursor), output),
         2 => calls::context(session, words::number(input, cursor, 4294967295), output),
         _ => calls::work(session, words::wide(input, cursor), output),
@@ -59,16 +71,16 @@ fn plain(session: Session, call: u64, input: &mut [u8], output: &mut [u8]) -> Se
 // The calls 6 and 7.
 fn constant(
     session: Session,
-    call: u64,
-    input: &mut [u8],
-    output: &mut [u8],
-    names: &mut [u8],
-    constants: &mut [u32],
-    order: &mut [u32],
-    thresholds: &mut [i32],
+    call: ReadNumber,
+    input: &mut Buffer,
+    output: &mut Buffer,
+    names: &mut Buffer,
+    constants: &mut Constants,
+    order: &mut Order,
+    thresholds: &mut Thresholds,
 ) -> Session {
-    let cursor = session.cursor;
-    if call == 6 {
+    let cursor = call.cursor;
+    if call.value == 6 {
         let read = words::signed(input, cursor);
         return calls::number(session, read, output, names, constants, order, thresholds);
     }
@@ -89,16 +101,16 @@ fn constant(
 // The calls 20 and 21.
 fn seed(
     session: Session,
-    call: u64,
-    input: &mut [u8],
-    output: &mut [u8],
-    constants: &[u32],
-    seeds: &mut [u32],
-    records: &mut [u32],
-    thresholds: &mut [i32],
+    call: ReadNumber,
+    input: &mut Buffer,
+    output: &mut Buffer,
+    constants: &Constants,
+    seeds: &mut Arguments,
+    records: &mut Records,
+    thresholds: &mut Thresholds,
 ) -> Session {
-    let cursor = session.cursor;
-    if call == 20 {
+    let cursor = call.cursor;
+    if call.value == 20 {
         let read = parts::pair(input, cursor);
         return calls::seed_value(session, read, output, constants, seeds, records);
     }
@@ -109,18 +121,19 @@ fn seed(
 // The calls 40 to 43.
 fn reading(
     session: Session,
-    call: u64,
-    input: &mut [u8],
-    output: &mut [u8],
-    names: &[u8],
-    constants: &[u32],
-    records: &[u32],
-    rules: &[u32],
-    arguments: &[u32],
-    slots: &[u32],
+    call: ReadNumber,
+    input: &mut Buffer,
+    output: &mut Buffer,
+    names: &Buffer,
+    constants: &Constants,
+    records: &Records,
+    rules: &Rules,
+    arguments: &Arguments,
+    slots: &Slots,
 ) -> Session {
-    let cursor = session.cursor;
-    match call {
+    let cursor = call.cursor;
+    let number = call.value;
+    match number {
         40 => readings::argument(session, words::wide(input, cursor), output, arguments),
         41 => readings::contexts(session, words::wide(input, cursor), output, records),
         42 => readings::slot(session, parts::pair(input, cursor), output, rules, slots),
@@ -137,19 +150,20 @@ fn reading(
 // The calls 1 to 15. Any other number is no call.
 fn early(
     session: Session,
-    call: u64,
-    input: &mut [u8],
-    output: &mut [u8],
-    names: &mut [u8],
-    constants: &mut [u32],
-    order: &mut [u32],
-    thresholds: &mut [i32],
-    nodes: &mut [u64],
-    predicates: &mut [u32],
-    seeds: &mut [u32],
+    call: ReadNumber,
+    input: &mut Buffer,
+    output: &mut Buffer,
+    names: &mut Buffer,
+    constants: &mut Constants,
+    order: &mut Order,
+    thresholds: &mut Thresholds,
+    nodes: &mut Nodes,
+    predicates: &mut Predicates,
+    seeds: &mut Arguments,
 ) -> Session {
-    let cursor = session.cursor;
-    match call {
+    let cursor = call.cursor;
+    let number = call.value;
+    match number {
         1..=3 => plain(session, call, input, output),
         4 => calls::predicate(
             session,
@@ -171,7 +185,7 @@ fn early(
         ),
         10..=15 => calls::expression(
             session,
-            parts::expression(input, cursor, call),
+            parts::expression(input, cursor, number),
             output,
             nodes,
         ),
@@ -179,26 +193,25 @@ fn early(
     }
 }
 
-// One call, by its number.
-fn step(
+// The calls from 20 on, but for the run.
+fn late(
     session: Session,
-    call: u64,
-    input: &mut [u8],
-    output: &mut [u8],
-    names: &mut [u8],
-    constants: &mut [u32],
-    order: &mut [u32],
-    thresholds: &mut [i32],
-    nodes: &mut [u64],
-    predicates: &mut [u32],
-    seeds: &mut [u32],
-    records: &mut [u32],
-    rules: &mut [u32],
-    arguments: &mut [u32],
-    slots: &mut [u32],
+    call: ReadNumber,
+    input: &mut Buffer,
+    output: &mut Buffer,
+    names: &Buffer,
+    constants: &Constants,
+    thresholds: &mut Thresholds,
+    nodes: &Nodes,
+    seeds: &mut Arguments,
+    records: &mut Records,
+    rules: &mut Rules,
+    arguments: &Arguments,
+    slots: &Slots,
 ) -> Session {
-    let cursor = session.cursor;
-    match call {
+    let cursor = call.cursor;
+    let number = call.value;
+    match number {
         20..=21 => seed(
             session,
             call,
@@ -217,18 +230,6 @@ fn step(
             rules,
             records,
         ),
-        30 => readings::run(
-            session,
-            cursor,
-            output,
-            nodes,
-            constants,
-            rules,
-            seeds,
-            thresholds,
-            arguments,
-            slots,
-        ),
         40..=43 => reading(
             session,
             call,
@@ -243,7 +244,30 @@ fn step(
         ),
         50 => readings::counts(session, cursor, output),
         51 => readings::stopped_in(session, cursor, output),
-        _ => early(
+        _ => session.behind(cursor.spoiled()),
+    }
+}
+
+// One call but the run, by its number.
+fn step(
+    session: Session,
+    call: ReadNumber,
+    input: &mut Buffer,
+    output: &mut Buffer,
+    names: &mut Buffer,
+    constants: &mut Constants,
+    order: &mut Order,
+    thresholds: &mut Thresholds,
+    nodes: &mut Nodes,
+    predicates: &mut Predicates,
+    seeds: &mut Arguments,
+    records: &mut Records,
+    rules: &mut Rules,
+    arguments: &Arguments,
+    slots: &Slots,
+) -> Session {
+    if call.value < 20 {
+        return early(
             session,
             call,
             input,
@@ -255,71 +279,100 @@ fn step(
             nodes,
             predicates,
             seeds,
-        ),
+        );
     }
+    late(
+        session,
+        call,
+        input,
+        output,
+        names,
+        constants,
+        thresholds,
+        nodes,
+        seeds,
+        records,
+        rules,
+        arguments,
+        slots,
+    )
 }
 
 // The next call; a text that has ended or is no job has none.
-fn next_call(input: &mut [u8], session: Session) -> ReadNumber {
-    let cursor = session.cursor;
-    if cursor.bad {
+fn next_call(input: &mut Buffer, cursor: Cursor) -> ReadNumber {
+    if 0 < cursor.faults {
         return ReadNumber { value: 0, cursor };
     }
     words::call(input, cursor)
 }
 
-// Answers calls until the text ends or is found to be no job. A loop has to end, so turns are counted down from more than any run has.
+// Answers calls until the text ends or is found to be no job. The run is called here and not by `step`: a frame as large as its tables is
+// then entered once and not for every line. A loop has to end, so turns are counted down from more than any run has.
 fn serve(
-    input: &mut [u8],
-    output: &mut [u8],
-    names: &mut [u8],
-    constants: &mut [u32],
-    order: &mut [u32],
-    thresholds: &mut [i32],
-    nodes: &mut [u64],
-    predicates: &mut [u32],
-    seeds: &mut [u32],
-    records: &mut [u32],
-    rules: &mut [u32],
-    arguments: &mut [u32],
-    slots: &mut [u32],
+    input: &mut Buffer,
+    output: &mut Buffer,
+    names: &mut Buffer,
+    constants: &mut Constants,
+    order: &mut Order,
+    thresholds: &mut Thresholds,
+    nodes: &mut Nodes,
+    predicates: &mut Predicates,
+    seeds: &mut Arguments,
+    records: &mut Records,
+    rules: &mut Rules,
+    arguments: &mut Arguments,
+    slots: &mut Slots,
 ) -> Session {
     let mut session = begin(input, output);
     let mut turns = u64::MAX;
-    let mut call = next_call(input, session);
+    let mut call = next_call(input, session.cursor);
     while turns > 0 && call.value != 0 {
-        session = step(
-            session.behind(call.cursor),
-            call.value,
-            input,
-            output,
-            names,
-            constants,
-            order,
-            thresholds,
-            nodes,
-            predicates,
-            seeds,
-            records,
-            rules,
-            arguments,
-            slots,
-        );
-        call = next_call(input, session);
+        if call.value == 30 {
+            session = readings::run(
+                session,
+                call.cursor,
+                output,
+                nodes,
+                constants,
+                rules,
+                seeds,
+                thresholds,
+                arguments,
+                slots,
+            );
+        } else {
+            session = step(
+                session,
+                call,
+                input,
+                output,
+                names,
+                constants,
+                order,
+                thresholds,
+                nodes,
+                predicates,
+                seeds,
+                records,
+                rules,
+                arguments,
+                slots,
+            );
+        }
+        call = next_call(input, session.cursor);
         turns -= 1;
     }
     session.behind(call.cursor)
 }
 
 // The last line of a text that is no job, and all that is not written out yet.
-fn finish(session: Session, output: &mut [u8]) {
-    let cursor = session.cursor;
-    if cursor.bad {
-        let end = lines::put(output, session.at, b"malformed\n", 10);
+fn finish(cursor: Cursor, output: &mut Buffer, at: usize) {
+    if 0 < cursor.faults {
+        let end = lines::put(output, at, b"malformed\n", 10);
         lines::flush(output, end);
         return;
     }
-    lines::flush(output, session.at);
+    lines::flush(output, at);
 }
 
 fn main() {
@@ -351,5 +404,5 @@ fn main() {
         &mut arguments,
         &mut slots,
     );
-    finish(session, &mut output);
+    finish(session.cursor, &mut output, session.at);
 }

@@ -2,8 +2,17 @@
 use crate::calls::Session;
 use crate::lines;
 use crate::parts::ReadPair;
+use crate::tables::Arguments;
+use crate::tables::Buffer;
+use crate::tables::Constants;
+use crate::tables::Nodes;
+use crate::tables::Records;
+use crate::tables::Rules;
+use crate::tables::Slots;
+use crate::tables::Thresholds;
 use crate::words::Cursor;
 use crate::words::ReadNumber;
+use limits::Statistics;
 use numeric::Bounded;
 use numeric::Counted;
 use numeric::Keyed;
@@ -15,8 +24,8 @@ use store::Store;
 fn argument_line(
     store: Store,
     argument: u64,
-    arguments: &[u32],
-    output: &mut [u8],
+    arguments: &Arguments,
+    output: &mut Buffer,
     at: usize,
 ) -> usize {
     let mut line = [0u8; report::LINE];
@@ -29,9 +38,9 @@ fn slot_line(
     rule: u64,
     slot: u64,
     after: bool,
-    rules: &[u32],
-    slots: &[u32],
-    output: &mut [u8],
+    rules: &Rules,
+    slots: &Slots,
+    output: &mut Buffer,
     at: usize,
 ) -> usize {
     let mut line = [0u8; report::LINE];
@@ -39,19 +48,19 @@ fn slot_line(
     lines::line(output, at, written, &line)
 }
 
-fn status_line(store: Store, output: &mut [u8], at: usize) -> usize {
+fn status_line(store: Store, output: &mut Buffer, at: usize) -> usize {
     let mut line = [0u8; report::LINE];
     let written = report::status_line(store, &mut line);
     lines::line(output, at, written, &line)
 }
 
-fn statistics_line(store: Store, output: &mut [u8], at: usize) -> usize {
+fn statistics_line(store: Store, output: &mut Buffer, at: usize) -> usize {
     let mut line = [0u8; report::LINE];
     let written = report::statistics_line(store, &mut line);
     lines::line(output, at, written, &line)
 }
 
-fn argument_lines(store: Store, arguments: &[u32], output: &mut [u8], at: usize) -> usize {
+fn argument_lines(store: Store, arguments: &Arguments, output: &mut Buffer, at: usize) -> usize {
     let counts = store.counts;
     let end = counts.positions as u64;
     let mut place = at;
@@ -68,9 +77,9 @@ fn both_lines(
     store: Store,
     rule: u64,
     slot: u64,
-    rules: &[u32],
-    slots: &[u32],
-    output: &mut [u8],
+    rules: &Rules,
+    slots: &Slots,
+    output: &mut Buffer,
     at: usize,
 ) -> usize {
     let place = slot_line(store, rule, slot, false, rules, slots, output, at);
@@ -80,9 +89,9 @@ fn both_lines(
 fn slot_lines(
     store: Store,
     rule: u64,
-    rules: &[u32],
-    slots: &[u32],
-    output: &mut [u8],
+    rules: &Rules,
+    slots: &Slots,
+    output: &mut Buffer,
     at: usize,
 ) -> usize {
     let end = rules::slots_at(rules, rule as usize);
@@ -98,9 +107,9 @@ fn slot_lines(
 fn rule_lines(
     store: Store,
     end: u64,
-    rules: &[u32],
-    slots: &[u32],
-    output: &mut [u8],
+    rules: &Rules,
+    slots: &Slots,
+    output: &mut Buffer,
     at: usize,
 ) -> usize {
     let mut place = at;
@@ -125,10 +134,10 @@ fn is_completed(store: Store) -> bool {
 // The lines of a run that has ended.
 fn report(
     store: Store,
-    rules: &[u32],
-    arguments: &[u32],
-    slots: &[u32],
-    output: &mut [u8],
+    rules: &Rules,
+    arguments: &Arguments,
+    slots: &Slots,
+    output: &mut Buffer,
     at: usize,
 ) -> usize {
     let counts = store.counts;
@@ -141,19 +150,41 @@ fn report(
     statistics_line(store, output, ruled)
 }
 
+// The session behind a run, with its lines or its refusal.
+fn ended(
+    done: Done,
+    cursor: Cursor,
+    rules: &Rules,
+    arguments: &Arguments,
+    slots: &Slots,
+    output: &mut Buffer,
+    at: usize,
+) -> Session {
+    match done {
+        Done::Refused(refusal, store) => {
+            let at = lines::refused(output, at, refusal);
+            Session { cursor, store, at }
+        }
+        Done::Ok(store) => {
+            let at = report(store, rules, arguments, slots, output, at);
+            Session { cursor, store, at }
+        }
+    }
+}
+
 pub fn run(
     session: Session,
     cursor: Cursor,
-    output: &mut [u8],
-    nodes: &[u64],
-    constants: &[u32],
-    rules: &[u32],
-    seeds: &[u32],
-    thresholds: &mut [i32],
-    arguments: &mut [u32],
-    slots: &mut [u32],
+    output: &mut Buffer,
+    nodes: &Nodes,
+    constants: &Constants,
+    rules: &Rules,
+    seeds: &Arguments,
+    thresholds: &mut Thresholds,
+    arguments: &mut Arguments,
+    slots: &mut Slots,
 ) -> Session {
-    match engine::run(
+    let done = engine::run(
         session.store,
         nodes,
         constants,
@@ -162,21 +193,18 @@ pub fn run(
         thresholds,
         arguments,
         slots,
-    ) {
-        Done::Refused(refusal, store) => {
-            let at = lines::refused(output, session.at, refusal);
-            Session { cursor, store, at }
-        }
-        Done::Ok(store) => {
-            let at = report(store, rules, arguments, slots, output, session.at);
-            Session { cursor, store, at }
-        }
-    }
+    );
+    ended(done, cursor, rules, arguments, slots, output, session.at)
 }
 
-pub fn argument(session: Session, id: ReadNumber, output: &mut [u8], arguments: &[u32]) -> Session {
+pub fn argument(
+    session: Session,
+    id: ReadNumber,
+    output: &mut Buffer,
+    arguments: &Arguments,
+) -> Session {
     let behind = id.cursor;
-    if behind.bad {
+    if 0 < behind.faults {
         return session.behind(behind);
     }
     let at = argument_line(session.store, id.value, arguments, output, session.at);
@@ -187,8 +215,8 @@ fn context_word(
     store: Store,
     argument: u64,
     k: u64,
-    records: &[u32],
-    output: &mut [u8],
+    records: &Records,
+    output: &mut Buffer,
     at: usize,
 ) -> usize {
     match numeric::context(store, records, argument, k) {
@@ -201,8 +229,8 @@ fn context_words(
     store: Store,
     argument: u64,
     count: u64,
-    records: &[u32],
-    output: &mut [u8],
+    records: &Records,
+    output: &mut Buffer,
     at: usize,
 ) -> usize {
     let mut place = at;
@@ -217,8 +245,8 @@ fn context_words(
 fn contexts_line(
     store: Store,
     argument: u64,
-    records: &[u32],
-    output: &mut [u8],
+    records: &Records,
+    output: &mut Buffer,
     at: usize,
 ) -> usize {
     match numeric::context_count(store, records, argument) {
@@ -232,9 +260,14 @@ fn contexts_line(
     }
 }
 
-pub fn contexts(session: Session, id: ReadNumber, output: &mut [u8], records: &[u32]) -> Session {
+pub fn contexts(
+    session: Session,
+    id: ReadNumber,
+    output: &mut Buffer,
+    records: &Records,
+) -> Session {
     let behind = id.cursor;
-    if behind.bad {
+    if 0 < behind.faults {
         return session.behind(behind);
     }
     let at = contexts_line(session.store, id.value, records, output, session.at);
@@ -246,9 +279,9 @@ fn slot_reading(
     store: Store,
     rule: u64,
     slot: u64,
-    rules: &[u32],
-    slots: &[u32],
-    output: &mut [u8],
+    rules: &Rules,
+    slots: &Slots,
+    output: &mut Buffer,
     at: usize,
 ) -> usize {
     match numeric::slot(store, rules, slots, rule, slot, false) {
@@ -260,12 +293,12 @@ fn slot_reading(
 pub fn slot(
     session: Session,
     read: ReadPair,
-    output: &mut [u8],
-    rules: &[u32],
-    slots: &[u32],
+    output: &mut Buffer,
+    rules: &Rules,
+    slots: &Slots,
 ) -> Session {
     let behind = read.cursor;
-    if behind.bad {
+    if 0 < behind.faults {
         return session.behind(behind);
     }
     let at = slot_reading(
@@ -284,7 +317,7 @@ fn wide(byte: u8) -> u64 {
     byte as u64
 }
 
-fn name_bytes(name: &[u8], output: &mut [u8], at: usize) -> usize {
+fn name_bytes(name: &[u8], output: &mut Buffer, at: usize) -> usize {
     let mut place = at;
     let mut i: usize = 0;
     while i < name.len() {
@@ -297,9 +330,9 @@ fn name_bytes(name: &[u8], output: &mut [u8], at: usize) -> usize {
 fn name_words(
     store: Store,
     constant: u64,
-    names: &[u8],
-    constants: &[u32],
-    output: &mut [u8],
+    names: &Buffer,
+    constants: &Constants,
+    output: &mut Buffer,
     at: usize,
 ) -> usize {
     let mut refusal: u64 = 0;
@@ -310,7 +343,7 @@ fn name_words(
     lines::end_line(output, end)
 }
 
-fn key_start(output: &mut [u8], at: usize, constant: u64) -> usize {
+fn key_start(output: &mut Buffer, at: usize, constant: u64) -> usize {
     let letter = lines::put(output, at, b"k", 1);
     lines::number(output, letter, constant)
 }
@@ -318,9 +351,9 @@ fn key_start(output: &mut [u8], at: usize, constant: u64) -> usize {
 fn key_line(
     store: Store,
     constant: u64,
-    names: &[u8],
-    constants: &[u32],
-    output: &mut [u8],
+    names: &Buffer,
+    constants: &Constants,
+    output: &mut Buffer,
     at: usize,
 ) -> usize {
     match numeric::key(store, constants, constant) {
@@ -345,12 +378,12 @@ fn key_line(
 pub fn key(
     session: Session,
     id: ReadNumber,
-    output: &mut [u8],
-    names: &[u8],
-    constants: &[u32],
+    output: &mut Buffer,
+    names: &Buffer,
+    constants: &Constants,
 ) -> Session {
     let behind = id.cursor;
-    if behind.bad {
+    if 0 < behind.faults {
         return session.behind(behind);
     }
     let at = key_line(
@@ -364,12 +397,8 @@ pub fn key(
     session.told(behind, at)
 }
 
-// All counts.
-pub fn counts(session: Session, cursor: Cursor, output: &mut [u8]) -> Session {
-    let store = session.store;
-    let budget = store.budget;
-    let counts = budget.statistics;
-    let letter = lines::put(output, session.at, b"n", 1);
+fn counts_line(counts: Statistics, output: &mut Buffer, at: usize) -> usize {
+    let letter = lines::put(output, at, b"n", 1);
     let links = lines::four(
         output,
         letter,
@@ -386,7 +415,14 @@ pub fn counts(session: Session, cursor: Cursor, output: &mut [u8]) -> Session {
         counts.bytes,
         counts.widened,
     );
-    let at = lines::end_line(output, end);
+    lines::end_line(output, end)
+}
+
+// All counts.
+pub fn counts(session: Session, cursor: Cursor, output: &mut Buffer) -> Session {
+    let store = session.store;
+    let budget = store.budget;
+    let at = counts_line(budget.statistics, output, session.at);
     session.told(cursor, at)
 }
 
@@ -399,20 +435,21 @@ fn stop_context(phase: Phase) -> Context {
     }
 }
 
-// The context in force where a run stopped.
-pub fn stopped_in(session: Session, cursor: Cursor, output: &mut [u8]) -> Session {
-    let store = session.store;
-    let phase = store.phase;
-    match stop_context(phase) {
-        Context::None => {
-            let at = lines::put(output, session.at, b"c -\n", 4);
-            session.told(cursor, at)
-        }
+fn stop_line(context: Context, output: &mut Buffer, at: usize) -> usize {
+    match context {
+        Context::None => lines::put(output, at, b"c -\n", 4),
         Context::Some(context) => {
-            let letter = lines::put(output, session.at, b"c", 1);
+            let letter = lines::put(output, at, b"c", 1);
             let end = lines::number(output, letter, context as u64);
-            let at = lines::end_line(output, end);
-            session.told(cursor, at)
+            lines::end_line(output, end)
         }
     }
+}
+
+// The context in force where a run stopped.
+pub fn stopped_in(session: Session, cursor: Cursor, output: &mut Buffer) -> Session {
+    let store = session.store;
+    let phase = store.phase;
+    let at = stop_line(stop_context(phase), output, session.at);
+    session.told(cursor, at)
 }

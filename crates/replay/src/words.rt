@@ -1,13 +1,14 @@
 //! Standard input as the text of a job: decimal integers, parted by spaces and line feeds. The buffer is lent, and filled anew once it is
 //! used up, so that a text of any length can be read.
+use crate::tables::Buffer;
 use libc::STDIN_FILENO;
 
-// Where reading stands: the next byte and the end of what the buffer has. Once the text is found to be no job, all later readings give 0.
+// Where reading stands: the next byte and the end of what the buffer has; a place beyond the end says that the text is over. Once the text
+// is found to be no job, it has a fault, and all later readings give 0. All fields are words: flags would be copied by way of memory.
 pub struct Cursor {
     pub at: usize,
     pub end: usize,
-    pub over: bool,
-    pub bad: bool,
+    pub faults: u64,
 }
 
 // A number of the text, and where reading stands behind it.
@@ -43,15 +44,18 @@ impl Cursor {
         Cursor {
             at: 0,
             end: 0,
-            over: false,
-            bad: false,
+            faults: 0,
         }
     }
 
     // The text is no job.
     pub fn spoiled(mut self) -> Cursor {
-        self.bad = true;
+        self.faults = 1;
         self
+    }
+
+    fn is_over(self) -> bool {
+        self.end < self.at
     }
 
     fn next(mut self) -> Cursor {
@@ -64,26 +68,30 @@ impl Cursor {
 
 // More of the text, where all that the buffer has is read. A read that fails ends the text.
 fn fill(input: &mut [u8], cursor: Cursor) -> Cursor {
-    if cursor.at < cursor.end {
-        return cursor;
-    }
-    if cursor.over {
+    if cursor.at != cursor.end {
         return cursor;
     }
     let got = libc::read(STDIN_FILENO, input);
     let n = io::count(got, input);
+    let faults = cursor.faults;
+    if n == 0 {
+        return Cursor {
+            at: 1,
+            end: 0,
+            faults,
+        };
+    }
     Cursor {
         at: 0,
         end: n,
-        over: n == 0,
-        bad: cursor.bad,
+        faults,
     }
 }
 
 // The byte where reading stands. The end of the text parts words too.
-fn byte_at(input: &[u8], cursor: Cursor) -> u8 {
+fn byte_at(input: &Buffer, cursor: Cursor) -> u8 {
     let at = cursor.at;
-    if cursor.over {
+    if cursor.end <= at {
         return b' ';
     }
     if at < input.len() {
@@ -106,15 +114,15 @@ fn is_digit(byte: u8) -> bool {
     byte <= b'9'
 }
 
-fn is_blank(input: &[u8], cursor: Cursor) -> bool {
-    if cursor.over {
+fn is_blank(input: &Buffer, cursor: Cursor) -> bool {
+    if cursor.is_over() {
         return false;
     }
     parts_words(byte_at(input, cursor))
 }
 
 // The start of the next word, or the end of the text. Nothing says that a text ends, so turns are counted down from more than any run has.
-fn skip(input: &mut [u8], cursor: Cursor) -> Cursor {
+fn skip(input: &mut Buffer, cursor: Cursor) -> Cursor {
     let mut here = fill(input, cursor);
     let mut turns = u64::MAX;
     while turns > 0 && is_blank(input, here) {
@@ -124,30 +132,24 @@ fn skip(input: &mut [u8], cursor: Cursor) -> Cursor {
     here
 }
 
-// One digit more behind a number.
-fn with_digit(read: Digits, digit: u64, cursor: Cursor) -> Digits {
-    let large = Digits {
-        value: 0,
-        large: true,
-        any: true,
-        cursor,
-    };
-    if read.large {
-        return large;
+// Whether a number has room for one digit more.
+fn has_room(value: u64, digit: u64) -> bool {
+    if 1844674407370955161 < value {
+        return false;
     }
-    if 1844674407370955161 < read.value {
-        return large;
+    digit <= u64::MAX - 10 * value
+}
+
+// One digit more behind a number that has room for it.
+fn with_digit(value: u64, digit: u64) -> u64 {
+    if 1844674407370955161 < value {
+        return 0;
     }
-    let shifted = 10 * read.value;
+    let shifted = 10 * value;
     if u64::MAX - shifted < digit {
-        return large;
+        return 0;
     }
-    Digits {
-        value: shifted + digit,
-        large: false,
-        any: true,
-        cursor,
-    }
+    shifted + digit
 }
 
 // The number that a digit stands for.
@@ -158,30 +160,32 @@ fn digit_of(byte: u8) -> u64 {
     (byte - b'0') as u64
 }
 
-// Takes the digit where reading stands.
-fn take_digit(input: &mut [u8], read: Digits) -> Digits {
-    let here = read.cursor;
-    let digit = digit_of(byte_at(input, here));
-    with_digit(read, digit, fill(input, here.next()))
+fn is_at_digit(input: &Buffer, cursor: Cursor) -> bool {
+    is_digit(byte_at(input, cursor))
 }
 
-fn is_at_digit(input: &[u8], read: Digits) -> bool {
-    is_digit(byte_at(input, read.cursor))
-}
-
-fn take_digits(input: &mut [u8], cursor: Cursor) -> Digits {
-    let mut read = Digits {
-        value: 0,
-        large: false,
-        any: false,
-        cursor,
-    };
+fn take_digits(input: &mut Buffer, cursor: Cursor) -> Digits {
+    let mut here = cursor;
+    let mut value: u64 = 0;
+    let mut large = false;
+    let mut any = false;
     let mut turns = u64::MAX;
-    while turns > 0 && is_at_digit(input, read) {
-        read = take_digit(input, read);
+    while turns > 0 && is_at_digit(input, here) {
+        let digit = digit_of(byte_at(input, here));
+        if !has_room(value, digit) {
+            large = true;
+        }
+        value = with_digit(value, digit);
+        any = true;
+        here = fill(input, here.next());
         turns -= 1;
     }
-    read
+    Digits {
+        value,
+        large,
+        any,
+        cursor: here,
+    }
 }
 
 fn no_word(cursor: Cursor) -> ReadWord {
@@ -194,7 +198,7 @@ fn no_word(cursor: Cursor) -> ReadWord {
 }
 
 // The digits of a word up to its end.
-fn unsigned_word(input: &mut [u8], negative: bool, cursor: Cursor) -> ReadWord {
+fn unsigned_word(input: &mut Buffer, negative: bool, cursor: Cursor) -> ReadWord {
     let read = take_digits(input, cursor);
     let behind = read.cursor;
     if !read.any {
@@ -212,8 +216,8 @@ fn unsigned_word(input: &mut [u8], negative: bool, cursor: Cursor) -> ReadWord {
 }
 
 // The next word, which is to be an integer.
-fn word(input: &mut [u8], cursor: Cursor) -> ReadWord {
-    if cursor.bad {
+fn word(input: &mut Buffer, cursor: Cursor) -> ReadWord {
+    if 0 < cursor.faults {
         return no_word(cursor);
     }
     let start = skip(input, cursor);
@@ -232,11 +236,11 @@ fn no_number(cursor: Cursor) -> ReadNumber {
 }
 
 // A number from 0 to `most`.
-pub fn number(input: &mut [u8], cursor: Cursor, most: u64) -> ReadNumber {
+pub fn number(input: &mut Buffer, cursor: Cursor, most: u64) -> ReadNumber {
     let read = word(input, cursor);
     let behind = read.cursor;
     let value = read.value;
-    if behind.bad {
+    if 0 < behind.faults {
         return no_number(behind);
     }
     if read.large {
@@ -255,7 +259,7 @@ pub fn number(input: &mut [u8], cursor: Cursor, most: u64) -> ReadNumber {
 }
 
 // An id, a position, a slot, an arity or a limit.
-pub fn wide(input: &mut [u8], cursor: Cursor) -> ReadNumber {
+pub fn wide(input: &mut Buffer, cursor: Cursor) -> ReadNumber {
     number(input, cursor, u64::MAX)
 }
 
@@ -267,11 +271,11 @@ fn no_signed(cursor: Cursor) -> ReadSigned {
 }
 
 // A number of 32 signed bits.
-pub fn signed(input: &mut [u8], cursor: Cursor) -> ReadSigned {
+pub fn signed(input: &mut Buffer, cursor: Cursor) -> ReadSigned {
     let read = word(input, cursor);
     let behind = read.cursor;
     let value = read.value;
-    if behind.bad {
+    if 0 < behind.faults {
         return no_signed(behind);
     }
     if read.large {
@@ -296,9 +300,9 @@ pub fn signed(input: &mut [u8], cursor: Cursor) -> ReadSigned {
 }
 
 // The number of the next call, or 0 at the end of the text. No call has the number 0.
-pub fn call(input: &mut [u8], cursor: Cursor) -> ReadNumber {
+pub fn call(input: &mut Buffer, cursor: Cursor) -> ReadNumber {
     let start = skip(input, cursor);
-    if start.over {
+    if start.is_over() {
         return ReadNumber {
             value: 0,
             cursor: start,

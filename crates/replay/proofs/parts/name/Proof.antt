@@ -7,7 +7,7 @@ use Rattle.replay.proofs.parts.name.Statement.{statement}
 use Rattle.replay.proofs.parts.name.Tie as tie
 
 abbrev Inv-loop : tie.InvT-loop
-Inv-loop input₀ bytes₀ count here₀ i₀ len input bytes here i = (i ≤ len) × (length input ≡ length input₀) × (length bytes ≡ length bytes₀)
+Inv-loop input₀ bytes₀ count here₀ i₀ len input bytes here i = (i ≤ len) × (length bytes ≡ length bytes₀)
 
 abbrev μ-loop : tie.MeasureT-loop
 μ-loop input₀ bytes₀ count here₀ i₀ len input bytes here i = len - i
@@ -36,9 +36,6 @@ loop-again c = search needs
 same-length : tie.Need-same-length Inv-loop μ-loop
 same-length c = search needs
 
-same-length-2 : tie.Need-same-length-2 Inv-loop μ-loop
-same-length-2 c = search needs
-
 returns : tie.Need-returns Inv-loop μ-loop
 returns c = search needs
 
@@ -56,5 +53,4 @@ name-spec =
     loop-less
     loop-again
     same-length
-    same-length-2
     returns)

@@ -1,13 +1,11 @@
 -- `replay::parts::queries` meets its contract.
 use Prim.Native.Nat.{_-_, _≤_}
-use mathlib.Core.Path.{_≡_}
-use lib.ListN.{length}
 use borrow.Author.Needs.{needs}
 use Rattle.replay.proofs.parts.queries.Statement.{statement}
 use Rattle.replay.proofs.parts.queries.Tie as tie
 
 abbrev Inv-loop : tie.InvT-loop
-Inv-loop input₀ here₀ i₀ end input here i = (i ≤ end) × (length input ≡ length input₀)
+Inv-loop input₀ here₀ i₀ end input here i = i ≤ end
 
 abbrev μ-loop : tie.MeasureT-loop
 μ-loop input₀ here₀ i₀ end input here i = end - i
@@ -30,9 +28,6 @@ loop-less c = search needs
 loop-again : tie.Need-loop-again Inv-loop μ-loop
 loop-again c = search needs
 
-same-length : tie.Need-same-length Inv-loop μ-loop
-same-length c = search needs
-
 returns : tie.Need-returns Inv-loop μ-loop
 returns c = search needs
 
@@ -48,5 +43,4 @@ queries-spec =
     add-i
     loop-less
     loop-again
-    same-length
     returns)

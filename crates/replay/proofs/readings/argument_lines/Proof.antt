@@ -1,13 +1,11 @@
 -- `replay::readings::argument_lines` meets its contract.
 use Prim.Native.Nat.{_-_, _≤_}
-use mathlib.Core.Path.{_≡_}
-use lib.ListN.{length}
 use borrow.Author.Needs.{needs}
 use Rattle.replay.proofs.readings.argument_lines.Statement.{statement}
 use Rattle.replay.proofs.readings.argument_lines.Tie as tie
 
 abbrev Inv-loop : tie.InvT-loop
-Inv-loop store arguments output₀ at end place₀ i₀ output place i = (i ≤ end) × (length output ≡ length output₀)
+Inv-loop store arguments output₀ at end place₀ i₀ output place i = i ≤ end
 
 abbrev μ-loop : tie.MeasureT-loop
 μ-loop store arguments output₀ at end place₀ i₀ output place i = end - i
@@ -27,9 +25,6 @@ loop-less c = search needs
 loop-again : tie.Need-loop-again Inv-loop μ-loop
 loop-again c = search needs
 
-same-length : tie.Need-same-length Inv-loop μ-loop
-same-length c = search needs
-
 returns : tie.Need-returns Inv-loop μ-loop
 returns c = search needs
 
@@ -44,5 +39,4 @@ argument-lines-spec =
     add-i
     loop-less
     loop-again
-    same-length
     returns)

