@@ -31,7 +31,7 @@ use Rattle.evaluation.specs.declared.Pair.the-variants as pair
 use Rattle.operators.specs.Arithmetic.{span}
 use Rattle.evaluation.specs.Evaluation.{Input, expression, Values, both}
 use Rattle.evaluation.specs.Answers.{seesBoth, pairTo}
-use Rattle.evaluation.proofs.CodeLaws.{Sights, sights, pair-halted}
+use Rattle.evaluation.proofs.Operands.{Sights, sights, pair-halted}
 use Rattle.bindings.specs.Bindings.{assigned, aggregate, spanning, ranged, meeting, meetBinding, passes, bind}
 use Rattle.bindings.specs.Answers.{met}
 

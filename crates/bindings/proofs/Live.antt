@@ -27,7 +27,8 @@ use Rattle.slots.specs.Slots.{Slots, total, paying, holdingRows, meetOwned, top
 use Rattle.slots.proofs.Live.{Formed, Held, held-as, Keeps, keeps-pure, keeps-then, held-rows, keeps-each, owned-ends, SlotIn, keeps-arguments, keeps-dependents, tops-ends, made-ends}
 use Rattle.operators.specs.Arithmetic.{span}
 use Rattle.evaluation.specs.Evaluation.{Input, Values}
-use Rattle.evaluation.proofs.Live.{numeric-none, expression-lives, both-lives}
+use Rattle.rows.proofs.RowLaws.{numeric-none}
+use Rattle.evaluation.proofs.Live.{expression-lives, both-lives}
 use Rattle.operators.proofs.Formed.{span-proper}
 use Rattle.evaluation.proofs.Formed.{expression-good, both-good}
 use Rattle.bindings.specs.Bindings.{assigned, aggregate, spanning, ranged, meeting, meetBinding, passes, bind}

@@ -1,15 +1,11 @@
 -- What the code of evaluation answers is what the definitions say, over plain variables: one law for each way out.
-use Prim.Native.Nat.{ℕ, _-_, _≤_, _<_}
-use native.Mathlib.Omega.{arith}
-use native.Mathlib.Nat.{sub-zero}
+use Prim.Native.Nat.{ℕ, _-_, _<_}
 use mathlib.Core.Path.{_≡_, refl, sym, ap, subst, _∙_}
-use mathlib.Core.Bool.{Bool, true, false, cond, _&&_, _||_}
-use mathlib.Core.List.{List, []}
-use mathlib.Core.Option.{Option, some, none}
+use mathlib.Core.Bool.{Bool, true, false, _&&_, _||_}
+use mathlib.Core.List.{List}
 use borrow.Author.Tests.{eq-eqb, ne-eqb}
 use lib.Dec.{eqb}
 use lib.IntN.{pos}
-use lib.ListN.{length}
 use Rattle.integers.specs.Lists.{from}
 use Rattle.limits.specs.declared.Resource.the-variants.{Work}
 use Rattle.limits.specs.declared.Stop.{Stop}
@@ -17,30 +13,26 @@ use Rattle.limits.specs.declared.Charged.{Charged}
 use Rattle.limits.specs.declared.Charged.the-variants.{Paid}
 use Rattle.limits.specs.declared.Charged.the-variants as charged
 use Rattle.limits.specs.Charge.{chargeOf}
-use Rattle.limits.specs.Metered.{Run, going, stopped, Metered, pure, after, _>>=_, _>>_, foldM, mapped, through}
-use Rattle.limits.specs.Meter.{Meter, meter, work, released, holding, dropping}
+use Rattle.limits.specs.Metered.{Run, going, stopped, Metered, pure, after, _>>=_, _>>_, mapped, through}
+use Rattle.limits.specs.Meter.{Meter, meter, work, holding, dropping}
 use Rattle.limits.proofs.Monad.{bind-stop, bind-on, then-stop, then-on, pure-is, yes-on, no-on, Holds, Ensures, any-value, by-pure, by-through, bind, then}
-use Rattle.limits.proofs.CodeLaws.{work-paid, work-stopped, hold-on, hold-stop, drop-on, drop-stop}
+use Rattle.limits.proofs.CodeLaws.{work-paid, work-stopped, hold-on, hold-stop}
 use Rattle.interval.specs.declared.Interval.{Interval}
 use Rattle.interval.specs.declared.Bound.{Bound}
-use Rattle.interval.specs.declared.Integrality.{Integrality}
-use Rattle.interval.specs.declared.Integrality.the-variants.{Integer, Mixed}
-use Rattle.interval.specs.Interval.{meetOf}
-use Rattle.interval.specs.Bound.{bottomOf, numericOf, meetBound, sameBound}
 use Rattle.interval.specs.declared.Interval.the-variants.{Bottom, Bounded, Unbounded}
 use Rattle.lattice.specs.declared.Widening.{Widening}
 use Rattle.lattice.specs.declared.Outcome.the-variants.{Done, Stopped}
 use Rattle.lattice.specs.declared.Made.{Made}
 use Rattle.lattice.specs.Value.{Value, valueOf, value}
 use Rattle.lattice.specs.Constants.{constantAt}
-use Rattle.lattice.specs.Lattice.{numeric, constant, copied, top, sift, reduce, source, meetLists, meet, refine}
-use Rattle.lattice.specs.Answers.{made, MadeOf, StopsAt, Makes}
+use Rattle.lattice.specs.Lattice.{numeric, constant, copied, top}
+use Rattle.lattice.specs.Answers.{made, Makes}
 use Rattle.lattice.proofs.CodeLaws.{said-yes, said-no, said-stop}
 use Rattle.lists.specs.declared.Verdict.{Verdict}
 use Rattle.lists.specs.declared.Verdict.the-variants.{Yes, No}
 use Rattle.lists.specs.declared.Verdict.the-variants as verdict
 use Rattle.lists.specs.Answers.{Answers}
-use Rattle.rows.specs.Row.{idOf, listed?, listOf, entriesOf, valueAt}
+use Rattle.rows.specs.Row.{idOf, entriesOf, valueAt}
 use Rattle.nodes.specs.declared.UnaryOp.{UnaryOp}
 use Rattle.nodes.specs.declared.BinaryOp.{BinaryOp}
 use Rattle.nodes.specs.declared.Expression.{Expression}
@@ -48,31 +40,20 @@ use Rattle.nodes.specs.declared.Expression.the-variants.{Constant as Fixed, Slo
 use Rattle.nodes.specs.Node.{expressionAt}
 use Rattle.nodes.proofs.NodeLaws.{Below}
 use Rattle.nodes.proofs.Descent.{below, descends}
-use Rattle.rows.specs.declared.Copied.{Copied}
-use Rattle.rows.specs.declared.Copied.the-variants as copying
-use Rattle.rows.specs.Answers.{copiedTo}
-use Rattle.refinements.specs.declared.Noted.{Noted}
-use Rattle.refinements.specs.declared.Noted.the-variants.{At}
-use Rattle.refinements.specs.declared.Noted.the-variants as noted
-use Rattle.refinements.specs.declared.Narrowed.{Narrowed}
-use Rattle.refinements.specs.declared.Narrowed.the-variants as narrowing
-use Rattle.refinements.specs.Refinement.{Refinement, refinementAt, refinementsOf, narrow, restrict, position}
-use Rattle.refinements.specs.Answers.{Places, narrowedTo, Restricts}
-use Rattle.refinements.proofs.CodeLaws.{Numeric, restrict-stops, restrict-found, restrict-ends, restrict-numeric}
-use Rattle.lattice.specs.declared.Reason.{Reason}
+use Rattle.refinements.specs.Refinement.{Refinement, refinementsOf, restrict}
+use Rattle.refinements.proofs.CodeLaws.{Numeric, restrict-numeric}
 use Rattle.lattice.specs.declared.Reason.the-variants.{Some}
 use Rattle.lattice.specs.declared.Abstract.{Abstract}
-use Rattle.evaluation.specs.declared.Combined.{Combined}
 use Rattle.evaluation.specs.declared.Combined.the-variants.{To}
 use Rattle.evaluation.specs.declared.Combined.the-variants as combination
-use Rattle.evaluation.specs.declared.Pair.{Pair}
-use Rattle.evaluation.specs.declared.Pair.the-variants as pair
 use Rattle.evaluation.specs.declared.Operand.{Operand}
 use Rattle.evaluation.specs.declared.Operand.the-variants as operand
 use Rattle.operators.specs.Arithmetic.{empty?, unaryOf, absoluteOf, binaryOf, difference?}
 use Rattle.operators.specs.Literal.{covered}
-use Rattle.evaluation.specs.Evaluation.{Input, knownNode, knownIn, knownIdentity, identical, combined, afterOne, afterTwo, unknown, evaluateNode, evaluateIn, expression, Values, values, both}
-use Rattle.evaluation.specs.Answers.{combinedTo, Combines, Seen, seenAs, seen, sees, operandTo, SeenOf, numbers, PlainOf, BoundNarrows, dropped, Narrows, OneFollows, TwoFollow, SeenBoth, bothAs, seesBoth, pairTo}
+use Rattle.evaluation.specs.Evaluation.{Input, knownNode, knownIn, knownIdentity, identical, combined, afterOne, afterTwo, unknown, evaluateNode, evaluateIn, expression, values, both}
+use Rattle.evaluation.specs.Answers.{Combines, Seen, seenAs, seen, sees, operandTo, SeenOf, numbers, PlainOf, dropped, OneFollows, TwoFollow, bothAs, seesBoth}
+use Rattle.evaluation.proofs.Parents.{after-stop}
+use Rattle.evaluation.proofs.Operands.{Sight, seen-as, sight, halted}
 
 -- ---- `known_identity`: one step down
 
@@ -186,166 +167,6 @@ module _ (nodes constants : List ℕ) (op : BinaryOp) (l r : ℕ) (x y : Interva
         unfolding combined
         open-ended g = record { at = λ e me. no-on {t = empty? x || empty? y} _ _ _ (tests d) (bind-on _ _ _ (said-no a e me z) (rw (← k, g) (pure-is _ _))) }
 
--- an interval by the code's answer
-module _ {c : Metered Stop Meter Interval} {w mw : ℕ} {r : Combined} (h : Combines c w mw r) (e me : ℕ) where
-  combined-to : {i : Interval} {n : ℕ} → r ≡ To i n → going i (meter n mw e me) ≡ c (meter w mw e me)
-  combined-to p = sym (ap (λ (x : Combined). combinedTo x mw e me) p) ∙ h .at e me
-
-  combined-stopped : {s : Stop} {n : ℕ} → r ≡ combination.Stopped s n → stopped s (meter n mw e me) ≡ c (meter w mw e me)
-  combined-stopped p = sym (ap (λ (x : Combined). combinedTo x mw e me) p) ∙ h .at e me
-
--- ---- what is seen of a run
-
--- what is seen is a value's
-pub record Sight (x : Run Stop Meter Value) (b : Bound) (n : ℕ) (m : Meter) : Type 0 where
-  pub value : Value
-  pub is : going value m ≡ x
-  pub bound : value .bound ≡ b
-  pub entries : entriesOf value ≡ n
-
-seen-going : (x : Run Stop Meter Value) {b : Bound} {n : ℕ} {m : Meter} → going (seenAs b n) m ≡ sees x → Sight x b n m
-seen-going (going v m′) {b} {n} {m} h =
-    let p : seenAs b n ≡ seen v = cc in
-    let q : m ≡ m′ = cc in
-    record { value = v; is = ap (λ (k : Meter). going v k) q; bound = sym (ap (λ (s : Seen). s .bound) p); entries = sym (ap (λ (s : Seen). s .entries) p) }
-seen-going (stopped s m′) h = let z : _≡_ {A = ℕ} 0 1 = cc in absurd (omega arith)
-
-seen-stopped : (x : Run Stop Meter Value) {s : Stop} {m : Meter} → stopped s m ≡ sees x → stopped s m ≡ x
-seen-stopped (going v m′) h = let z : _≡_ {A = ℕ} 0 1 = cc in absurd (omega arith)
-seen-stopped (stopped s′ m′) {s} {m} h =
-    let p : s ≡ s′ = cc in
-    let q : m ≡ m′ = cc in
-    ap (λ (t : Stop). stopped t m) p ∙ ap (λ (k : Meter). stopped s′ k) q
-
-seen-as : (v : Value) {b : Bound} {n : ℕ} → v .bound ≡ b → entriesOf v ≡ n → seenAs b n ≡ seen v
-seen-as v p q = rw (← p, ← q) refl
-
-module _ {x : Run Stop Meter Value} {mw me : ℕ} {a : Operand} (h : operandTo a mw me ≡ sees x) where
-  pub sight : {b : Bound} {n w e : ℕ} → a ≡ operand.To b n w e → Sight x b n (meter w mw e me)
-  sight p = seen-going x (sym (ap (λ (o : Operand). operandTo o mw me) p) ∙ h)
-
-  pub halted : {s : Stop} {w e : ℕ} → a ≡ operand.Stopped s w e → stopped s (meter w mw e me) ≡ x
-  halted p = seen-stopped x (sym (ap (λ (o : Operand). operandTo o mw me) p) ∙ h)
-
--- of a value that was made
-module _ (a : Made) where
-  pub seen-halted : {s : Stop} → a .outcome ≡ Stopped s → SeenOf a (operand.Stopped s (a .work) (a .entries))
-  seen-halted p = record { at = λ mw me. rw p }
-
-  pub seen-done : {n : ℕ} → a .outcome ≡ Done → n ≡ entriesOf (valueOf (a .value)) → SeenOf a (operand.To (a .value .bound) n (a .work) (a .entries))
-  seen-done p e = record { at = λ mw me. rw (p, e) }
-
--- the value of an operand that is numeric
-module _ {a : Operand} {r : Made} where
-  pub plain-stopped : {s : Stop} {w e : ℕ} → a ≡ operand.Stopped s w e → StopsAt s w e r → PlainOf a r
-  plain-stopped p h = record { at = λ mw me. h .at mw me ∙ sym (ap (λ (o : Operand). numbers (operandTo o mw me)) p) }
-
-  pub plain-made : {b : Bound} {n w e : ℕ} → a ≡ operand.To b n w e → MadeOf (numeric (b .interval)) w e r → PlainOf a r
-  plain-made p h = record { at = λ mw me. h .at mw me ∙ sym (ap (λ (o : Operand). numbers (operandTo o mw me)) p) }
-
--- ---- a node with children, once they are worked out
-
--- what follows a run that has ended
-module _ (f : Value → Metered Stop Meter Value) {y : Run Stop Meter Value} where
-  after-stop : {s : Stop} {m : Meter} → stopped s m ≡ y → stopped s m ≡ after y f
-  unfolding after
-  after-stop h = rw (← h)
-
-  after-on : {v : Value} {m : Meter} → going v m ≡ y → f v m ≡ after y f
-  unfolding after
-  after-on h = rw (← h)
-
-numeric-seen : (i : Interval) → seenAs (numericOf i) 0 ≡ seen (numeric i)
-numeric-seen Bottom = refl
-numeric-seen (Bounded low high) = refl
-numeric-seen Unbounded = refl
-
-module _ {known : List Refinement} {id : ℕ} {i : Interval} {w mw : ℕ} {x : Narrowed} (h : Restricts known id i w mw x) (e : ℕ) where
-  pub narrows-stopped : {s : Stop} {n : ℕ} → x ≡ narrowing.Stopped s n → Narrows known id i w mw e (operand.Stopped s n e)
-  narrows-stopped p = record { at = λ constants me. ap sees (sym (ap (λ (y : Narrowed). narrowedTo y mw e me) p) ∙ h .at constants e me) }
-
-  pub narrows-to : {j : Interval} {n : ℕ} {b : Bound} → x ≡ narrowing.To j n → b ≡ numericOf j → Narrows known id i w mw e (operand.To b 0 n e)
-  narrows-to {j} {n} p q = record {
-    at = λ constants me.
-        ap (λ (s : Seen). going s (meter n mw e me)) (ap (λ (b : Bound). seenAs b 0) q ∙ numeric-seen j)
-        ∙ ap sees (sym (ap (λ (y : Narrowed). narrowedTo y mw e me) p) ∙ h .at constants e me);
-  }
-
--- where nothing is known
-pub narrows-free : (cells : List ℕ) (id : ℕ) (i : Interval) (w mw e : ℕ) {n : ℕ} {b : Bound} → n ≡ 0 → b ≡ numericOf i → Narrows (refinementsOf cells n) id i w mw e (operand.To b 0 w e)
-unfolding restrict from pure
-narrows-free cells id i w mw e z q = record {
-  at = λ constants me. rw z (ap (λ (s : Seen). going s (meter w mw e me)) (ap (λ (b : Bound). seenAs b 0) q ∙ numeric-seen i));
-}
-
--- one child
-module _ (known : List Refinement) (id : ℕ) (i : Interval) (listed w mw e : ℕ) {left : ℕ} (el : left ≡ e - listed) {x : Charged} (c : x ≡ chargeOf Work w 1 mw) where
-  pub one-refused : {s : Stop} {k : ℕ} → x ≡ charged.Stopped s k → OneFollows known id i listed w mw e (operand.Stopped s k left)
-  unfolding afterOne
-  one-refused z = record {
-    at = λ constants a me p.
-        ap sees
-        (after-stop (restrict constants known id)
-        (rw (el, ← p) (drop-stop (entriesOf a) (work 1 >> pure (numeric i)) (meter w mw e me) (then-stop (work 1) _ (pure (numeric i)) (work-stopped w mw e me 1 c z)))));
-  }
-
-  pub one-made : {k : ℕ} {r : Operand} → x ≡ Paid k → Narrows known id i k mw left r → OneFollows known id i listed w mw e r
-  unfolding afterOne
-  one-made {k} z h = record {
-    at = λ constants a me p.
-        h .at constants me
-        ∙ ap sees
-        (after-on (restrict constants known id)
-        (rw (el, ← p) (drop-on (entriesOf a) (work 1 >> pure (numeric i)) (meter w mw e me) (then-on (work 1) _ (pure (numeric i)) (work-paid w mw e me 1 c z) (pure-is _ _)))));
-  }
-
--- two children
-dropped-both : (e listed more : ℕ) {kept live : ℕ} → kept ≡ e - listed → live ≡ kept - more → live ≡ e - more - listed
-dropped-both e listed more p q = omega arith
-
-module _ (nodes constants : List ℕ) (known : List Refinement) (id : ℕ) (op : BinaryOp) (l r : ℕ) (x : Interval) (listed : ℕ) (y : Interval) (more w mw e : ℕ)
-    {kept live : ℕ} (ek : kept ≡ e - listed) (el : live ≡ kept - more) where
-  abbrev Follows : Operand → Type 0
-  Follows = TwoFollow nodes constants known id op l r x listed y more w mw e
-
-  abbrev rest : Metered Stop Meter Value
-  rest = work 1 >> (combined nodes constants op l r x y >>= (λ i. pure (numeric i)))
-
-  module _ (a b : Value) (pa : a .bound .interval ≡ x) (pb : b .bound .interval ≡ y) (pm : entriesOf b ≡ more) (me : ℕ) where
-    after-two : afterTwo nodes constants op l r a b (meter w mw e me) ≡ dropping more rest (meter w mw e me)
-    unfolding afterTwo
-    after-two = rw (pa, pb, pm)
-
-    halts : {s : Stop} {k : ℕ} → stopped s (meter k mw e me) ≡ rest (meter w mw e me) →
-        stopped s (meter k mw live me) ≡ after (dropped listed (afterTwo nodes constants op l r a b (meter w mw e me))) (restrict constants known id)
-    unfolding mapped
-    halts h =
-        after-stop (restrict constants known id)
-        (rw (dropped-both e listed more ek el) (ap (dropped listed) (drop-stop more rest (meter w mw e me) h ∙ sym after-two)))
-
-    goes : (i : Interval) {k : ℕ} → going (numeric i) (meter k mw e me) ≡ rest (meter w mw e me) →
-        restrict constants known id (numeric i) (meter k mw live me) ≡ after (dropped listed (afterTwo nodes constants op l r a b (meter w mw e me))) (restrict constants known id)
-    unfolding mapped
-    goes i h =
-        after-on (restrict constants known id)
-        (rw (dropped-both e listed more ek el) (ap (dropped listed) (drop-on more rest (meter w mw e me) h ∙ sym after-two)))
-
-  module _ {z : Charged} (c : z ≡ chargeOf Work w 1 mw) where
-    pub two-refused : {s : Stop} {k : ℕ} → z ≡ charged.Stopped s k → Follows (operand.Stopped s k live)
-    two-refused q = record { at = λ a b me pa _ pb pm. ap sees (halts a b pa pb pm me (then-stop (work 1) _ _ (work-stopped w mw e me 1 c q))) }
-
-    module _ {k : ℕ} (q : z ≡ Paid k) {d : Combined} (g : Combines (combined nodes constants op l r x y) k mw d) where
-      pub two-halted : {s : Stop} {j : ℕ} → d ≡ combination.Stopped s j → Follows (operand.Stopped s j live)
-      two-halted p = record {
-        at = λ a b me pa _ pb pm. ap sees (halts a b pa pb pm me (then-on (work 1) _ _ (work-paid w mw e me 1 c q) (bind-stop _ _ _ (combined-stopped g e me p))));
-      }
-
-      pub two-made : {i : Interval} {j : ℕ} {res : Operand} → d ≡ To i j → Narrows known id i j mw live res → Follows res
-      two-made {i} p h = record {
-        at = λ a b me pa _ pb pm.
-            h .at constants me ∙ ap sees (goes a b pa pb pm me i (then-on (work 1) _ _ (work-paid w mw e me 1 c q) (bind-on _ _ _ (combined-to g e me p) (pure-is _ _))));
-      }
-
 -- ---- a node that is worked out, and then narrowed
 
 module _ (f : Value → Metered Stop Meter Value) (node : Made) (mw me : ℕ) where
@@ -362,10 +183,6 @@ pub finish-free : (constants cells : List ℕ) (id : ℕ) {n : ℕ} → n ≡ 0 
 unfolding after restrict pure from
 finish-free constants cells id e (going v m) = rw e refl
 finish-free constants cells id e (stopped s m) = refl
-
-bound-is : (m : Metered Stop Meter Value) (f : Value → Metered Stop Meter Value) (s : Meter) {x : Run Stop Meter Value} → x ≡ m s → after x f ≡ (m >>= f) s
-unfolding _>>=_
-bound-is m f s h = ap (λ (v : Run Stop Meter Value). after v f) h
 
 -- ---- `expression`: one step down
 
@@ -576,149 +393,6 @@ module _ (i : Input) (slots : List ℕ) (known : List Refinement) where
           (bind-on (expression i slots known l) (meter w mw e me) (λ a. holding (entriesOf a) (expression i slots known r) >>= (λ b. pure (values a b))) (v .is)
           (bind-on (holding (entriesOf (v .value)) (expression i slots known r)) (meter k mw live me) (λ b. pure (values (v .value) b))
           (hold-on (entriesOf (v .value)) (expression i slots known r) (meter k mw live me) (u .is)) (pure-is _ _)))
-
--- ---- what is seen of two
-
-pub record Sights (x : Run Stop Meter Values) (a : Bound) (n : ℕ) (b : Bound) (k : ℕ) (m : Meter) : Type 0 where
-  pub pair : Values
-  pub is : going pair m ≡ x
-  pub first-bound : pair .first .bound ≡ a
-  pub first-entries : entriesOf (pair .first) ≡ n
-  pub second-bound : pair .second .bound ≡ b
-  pub second-entries : entriesOf (pair .second) ≡ k
-
-both-going : (x : Run Stop Meter Values) {a : Bound} {n : ℕ} {b : Bound} {k : ℕ} {m : Meter} → going (bothAs (seenAs a n) (seenAs b k)) m ≡ seesBoth x → Sights x a n b k m
-both-going (going v m′) {a} {n} {b} {k} {m} h =
-    let p : bothAs (seenAs a n) (seenAs b k) ≡ bothAs (seen (v .first)) (seen (v .second)) = cc in
-    let q : m ≡ m′ = cc in
-    record {
-      pair = v;
-      is = ap (λ (t : Meter). going v t) q;
-      first-bound = sym (ap (λ (s : SeenBoth). s .first .bound) p);
-      first-entries = sym (ap (λ (s : SeenBoth). s .first .entries) p);
-      second-bound = sym (ap (λ (s : SeenBoth). s .second .bound) p);
-      second-entries = sym (ap (λ (s : SeenBoth). s .second .entries) p);
-    }
-both-going (stopped s m′) h = let z : _≡_ {A = ℕ} 0 1 = cc in absurd (omega arith)
-
-both-stopped : (x : Run Stop Meter Values) {s : Stop} {m : Meter} → stopped s m ≡ seesBoth x → stopped s m ≡ x
-both-stopped (going v m′) h = let z : _≡_ {A = ℕ} 0 1 = cc in absurd (omega arith)
-both-stopped (stopped s′ m′) {s} {m} h =
-    let p : s ≡ s′ = cc in
-    let q : m ≡ m′ = cc in
-    ap (λ (t : Stop). stopped t m) p ∙ ap (λ (k : Meter). stopped s′ k) q
-
-module _ {x : Run Stop Meter Values} {mw me : ℕ} {p : Pair} (h : pairTo p mw me ≡ seesBoth x) where
-  pub sights : {a : Bound} {n : ℕ} {b : Bound} {k w e : ℕ} → p ≡ pair.To a n b k w e → Sights x a n b k (meter w mw e me)
-  sights q = both-going x (sym (ap (λ (o : Pair). pairTo o mw me) q) ∙ h)
-
-  pub pair-halted : {s : Stop} {w e : ℕ} → p ≡ pair.Stopped s w e → stopped s (meter w mw e me) ≡ x
-  pair-halted q = both-stopped x (sym (ap (λ (o : Pair). pairTo o mw me) q) ∙ h)
-
--- ---- a value without a list that is narrowed
-
-undropped : (c : Metered Stop Meter Value) (m : Meter) → dropping 0 c m ≡ c m
-unfolding through mapped
-undropped c m = go (c m)
-  where
-    go : (x : Run Stop Meter Value) → mapped (released 0) (released 0) (λ e. e) x ≡ x
-    go (going v m) = ap (λ (n : ℕ). going v (meter (m .work) (m .maxWork) n (m .maxEntries))) (sub-zero (m .entries))
-    go (stopped s m) = ap (λ (n : ℕ). stopped s (meter (m .work) (m .maxWork) n (m .maxEntries))) (sub-zero (m .entries))
-
--- what it has in common with an interval
-abbrev common : List ℕ → Bound → Reason → Interval → Metered Stop Meter Value
-common constants b reason i = meetLists (value b none reason) (numeric i) (meetBound b (numeric i .bound)) constants (source none (numeric i .values))
-
-met-empty : (b : Bound) → meetBound (meetBound b bottomOf) bottomOf ≡ meetBound b bottomOf
-unfolding meetOf
-met-empty b = go (b .integrality) (b .interval)
-  where
-    go : (g : Integrality) (x : Interval) → meetBound (meetBound (record { integrality = g; interval = x }) bottomOf) bottomOf ≡ meetBound (record { integrality = g; interval = x }) bottomOf
-    go Integer Bottom = refl
-    go Integer (Bounded low high) = refl
-    go Integer Unbounded = refl
-    go Mixed Bottom = refl
-    go Mixed (Bounded low high) = refl
-    go Mixed Unbounded = refl
-
-no-entries : (t : Bool) → length (listOf (cond t (some []) none)) ≡ 0
-no-entries true = refl
-no-entries false = refl
-
-common-seen : (constants : List ℕ) (b : Bound) (reason : Reason) (i : Interval) (m : Meter) → going (seenAs (meetBound b (numericOf i)) 0) m ≡ sees (common constants b reason i m)
-unfolding sift reduce foldM _>>=_ after pure
-common-seen constants b reason Bottom m = ap (λ (c : Bound). going (seenAs c 0) m) (sym (met-empty b))
-common-seen constants b reason (Bounded low high) m =
-    ap (λ (n : ℕ). going (seenAs (meetBound b (numericOf (Bounded low high))) n) m) (sym (no-entries (sameBound (meetBound b (numericOf (Bounded low high))) bottomOf)))
-common-seen constants b reason Unbounded m =
-    ap (λ (n : ℕ). going (seenAs (meetBound b (numericOf Unbounded)) n) m) (sym (no-entries (sameBound (meetBound b (numericOf Unbounded)) bottomOf)))
-
-module _ (b : Bound) (i : Interval) (w mw e : ℕ) where
-  pub bound-mixed : b .integrality ≡ Mixed → BoundNarrows b i w mw e (operand.To b 0 w e)
-  unfolding pure
-  bound-mixed p = record { at = λ constants reason me. rw p }
-
-  module _ (p : b .integrality ≡ Integer) {x : Charged} (c : x ≡ chargeOf Work w 1 mw) where
-    narrow-is : (constants : List ℕ) (reason : Reason) (me : ℕ) → (work 1 >> common constants b reason i) (meter w mw e me) ≡ narrow constants i (value b none reason) (meter w mw e me)
-    unfolding refine meet
-    narrow-is constants reason me = sym (undropped (refine constants (value b none reason) i) (meter w mw e me)) ∙ rw p
-
-    pub bound-refused : {s : Stop} {n : ℕ} → x ≡ charged.Stopped s n → BoundNarrows b i w mw e (operand.Stopped s n e)
-    bound-refused q = record { at = λ constants reason me. ap sees (then-stop (work 1) _ _ (work-stopped w mw e me 1 c q) ∙ narrow-is constants reason me) }
-
-    pub bound-met : {n : ℕ} {j d : Bound} → x ≡ Paid n → j ≡ numericOf i → d ≡ meetBound b j → BoundNarrows b i w mw e (operand.To d 0 n e)
-    bound-met {n} q ej ed = record {
-      at = λ constants reason me.
-          ap (λ (c : Bound). going (seenAs c 0) (meter n mw e me)) (ed ∙ ap (meetBound b) ej)
-          ∙ common-seen constants b reason i (meter n mw e me)
-          ∙ ap sees (then-on (work 1) _ _ (work-paid w mw e me 1 c q) refl ∙ narrow-is constants reason me);
-    }
-
--- of a slot
-module _ (constants : List ℕ) (i : Interval) (v : Value) (w mw e me : ℕ) where
-  pub listed-narrowed : {u : Value} {y : Made} {r : Operand} → u ≡ v → made y mw me ≡ narrow constants i u (meter w mw e me) → SeenOf y r →
-      operandTo r mw me ≡ sees (narrow constants i v (meter w mw e me))
-  listed-narrowed eu m s = s .at mw me ∙ ap sees (m ∙ ap (λ (u : Value). narrow constants i u (meter w mw e me)) eu)
-
-  pub unlisted-narrowed : {t : Bool} {b : Bound} {r : Operand} → t ≡ listed? (v .values) → t ≡ false → b ≡ v .bound → BoundNarrows b i w mw e r →
-      operandTo r mw me ≡ sees (narrow constants i v (meter w mw e me))
-  unlisted-narrowed {b} et f eb h =
-      h .at constants (v .widening) me
-      ∙ ap (λ (c : Bound). sees (narrow constants i (value c none (v .widening)) (meter w mw e me))) eb
-      ∙ ap (λ (o : Option (List ℕ)). sees (narrow constants i (value (v .bound) o (v .widening)) (meter w mw e me))) (sym (unlisted (v .values) (sym et ∙ f)))
-    where
-      unlisted : (o : Option (List ℕ)) → listed? o ≡ false → o ≡ none
-      unlisted none h = refl
-      unlisted (some l) h = let z : _≡_ {A = ℕ} 0 1 = cc in absurd (omega arith)
-
--- ---- a slot as an operand
-
-module _ (constants : List ℕ) (cells : List ℕ) (count id : ℕ) (v : Value) (w mw e me : ℕ) where
-  abbrev whole : Run Stop Meter Value
-  whole = after (copied v (meter w mw e me)) (restrict constants (refinementsOf cells count) id)
-
-module _ (constants : List ℕ) (cells : List ℕ) (count id : ℕ) (v : Value) (w mw e me : ℕ) (x : Copied) (h : copiedTo x v mw me ≡ copied v (meter w mw e me)) where
-  pub copy-stopped : {s : Stop} {k live : ℕ} → x ≡ copying.Stopped s k live → stopped s (meter k mw live me) ≡ sees (whole constants cells count id v w mw e me)
-  copy-stopped p = ap sees (after-stop (restrict constants (refinementsOf cells count) id) (sym (ap (λ (y : Copied). copiedTo y v mw me) p) ∙ h))
-
-  module _ {k live : ℕ} (p : x ≡ copying.To k live) where
-    copy-made : restrict constants (refinementsOf cells count) id v (meter k mw live me) ≡ whole constants cells count id v w mw e me
-    copy-made = after-on (restrict constants (refinementsOf cells count) id) (sym (ap (λ (y : Copied). copiedTo y v mw me) p) ∙ h)
-
-    module _ {z : Noted} (g : Places (position 0 (refinementsOf cells count) id) k mw z) where
-      pub search-stopped : {s : Stop} {n held rest : ℕ} → z ≡ noted.Stopped s n → held ≡ entriesOf v → rest ≡ live - held → stopped s (meter n mw rest me) ≡ sees (whole constants cells count id v w mw e me)
-      search-stopped q eh er = ap sees (restrict-stops constants (refinementAt cells) id v count k mw live me g q eh er ∙ copy-made)
-
-      module _ {place n : ℕ} (q : z ≡ At place n) where
-        pub slot-seen : {b : Bound} {held : ℕ} → count ≤ place → b ≡ v .bound → held ≡ entriesOf v → going (seenAs b held) (meter n mw live me) ≡ sees (whole constants cells count id v w mw e me)
-        slot-seen l eb eh = rw (eb, eh) (ap sees (restrict-ends constants (refinementAt cells) id v count k mw live me g q l ∙ copy-made))
-
-        pub slot-narrowed : {j : Interval} (r : Operand) → place < count → j ≡ refinementAt cells place .restriction →
-            operandTo r mw me ≡ sees (narrow constants j v (meter n mw live me)) → operandTo r mw me ≡ sees (whole constants cells count id v w mw e me)
-        slot-narrowed {j} r l ej m =
-            m
-            ∙ ap sees
-            (restrict-found constants (refinementAt cells) id v count k mw live me g q l ej refl ∙ copy-made)
 
 -- ---- what nothing is known of
 

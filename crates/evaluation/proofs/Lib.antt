@@ -1,3 +1,5 @@
+pub mod Parents
+pub mod Operands
 pub mod CodeLaws
 pub mod Formed
 pub mod Live

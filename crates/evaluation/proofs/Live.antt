@@ -16,7 +16,7 @@ use Rattle.lattice.specs.Constants.{constantAt}
 use Rattle.lattice.specs.Lattice.{numeric}
 use Rattle.lattice.proofs.LiveLaws.{constant-lives, copied-lives}
 use Rattle.rows.specs.Row.{idOf, entriesOf, valueAt}
-use Rattle.rows.proofs.RowLaws.{size-is}
+use Rattle.rows.proofs.RowLaws.{size-is, numeric-none}
 use Rattle.nodes.specs.declared.BinaryOp.{BinaryOp}
 use Rattle.nodes.specs.declared.Expression.{Expression}
 use Rattle.nodes.specs.declared.Expression.the-variants.{Constant, Slot, Unary, Absolute, Binary, Unknown}
@@ -27,11 +27,6 @@ use Rattle.operators.specs.Arithmetic.{empty?, difference?}
 use Rattle.evaluation.specs.Evaluation.{Input, knownNode, knownIn, knownIdentity, combined, afterOne, afterTwo, unknown, evaluateNode, evaluateIn, expression, values, both}
 
 -- ---- values without a list
-
-pub numeric-none : (i : Interval) → 0 ≡ entriesOf (numeric i)
-numeric-none Bottom = refl
-numeric-none (Bounded low high) = refl
-numeric-none Unbounded = refl
 
 unknown-none : (integer : Bool) (w : Widening) → 0 ≡ entriesOf (unknown integer w)
 unknown-none true w = refl

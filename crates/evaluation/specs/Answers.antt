@@ -46,10 +46,14 @@ seenAs b n = record { bound = b; entries = n }
 abbrev pub seen : Value → Seen
 seen v = seenAs (v .bound) (entriesOf v)
 
--- the same run, of whose value no more is seen
+-- the same run with its value as f shows it
+abbrev pub shown : {A B : Type 0} → (A → B) → Run Stop Meter A → Run Stop Meter B
+shown f (going a m) = going (f a) m
+shown f (stopped s m) = stopped s m
+
+-- no more of it is seen
 abbrev pub sees : Run Stop Meter Value → Run Stop Meter Seen
-sees (going v m) = going (seen v) m
-sees (stopped s m) = stopped s m
+sees x = shown seen x
 
 abbrev pub operandTo : Operand → ℕ → ℕ → Run Stop Meter Seen
 operandTo (operand.To b n w e) mw me = going (seenAs b n) (meter w mw e me)
@@ -61,8 +65,7 @@ pub record SeenOf (a : Made) (r : Operand) : Type 0 where
 
 -- the numeric value of the interval that is seen
 abbrev pub numbers : Run Stop Meter Seen → Run Stop Meter Value
-numbers (going s m) = going (numeric (s .bound .interval)) m
-numbers (stopped e m) = stopped e m
+numbers x = shown (λ s. numeric (s .bound .interval)) x
 
 pub record PlainOf (a : Operand) (r : Made) : Type 0 where
   pub at : (mw me : ℕ) → made r mw me ≡ numbers (operandTo a mw me)
@@ -101,8 +104,7 @@ abbrev pub bothAs : Seen → Seen → SeenBoth
 bothAs a b = record { first = a; second = b }
 
 abbrev pub seesBoth : Run Stop Meter Values → Run Stop Meter SeenBoth
-seesBoth (going p m) = going (bothAs (seen (p .first)) (seen (p .second))) m
-seesBoth (stopped s m) = stopped s m
+seesBoth x = shown (λ p. bothAs (seen (p .first)) (seen (p .second))) x
 
 abbrev pub pairTo : Pair → ℕ → ℕ → Run Stop Meter SeenBoth
 pairTo (pair.To a n b k w e) mw me = going (bothAs (seenAs a n) (seenAs b k)) (meter w mw e me)

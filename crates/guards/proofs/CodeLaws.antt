@@ -46,7 +46,7 @@ use Rattle.evaluation.specs.declared.Pair.the-variants as pair
 use Rattle.operators.specs.Arithmetic.{span}
 use Rattle.evaluation.specs.Evaluation.{Input, knownIdentity, both}
 use Rattle.evaluation.specs.Answers.{seesBoth, pairTo}
-use Rattle.evaluation.proofs.CodeLaws.{Sights, sights, pair-halted}
+use Rattle.evaluation.proofs.Operands.{Sights, sights, pair-halted}
 use Rattle.affine.specs.declared.Affine.{Affine}
 use Rattle.affine.specs.declared.Affine.the-variants.{None, Sum, Difference, Reversed}
 use Rattle.guards.specs.declared.Refined.{Refined}

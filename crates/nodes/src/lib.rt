@@ -162,7 +162,7 @@ pub fn node_at(cells: &[u64], id: usize) -> Node
     ensures { λ r. ⌜ r ≡ nodeAt (now (cells .entry)) id ⌝ }
 {
     let at = start(cells.len(), id);
-    // a row that lies in the table wants no test for each cell
+    // A row that lies in the table wants no test for each cell.
     if 4 <= cells.len() - at {
         return node_of(cells[at], cells[at + 1], cells[at + 2], cells[at + 3]);
     }

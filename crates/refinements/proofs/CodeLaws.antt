@@ -37,6 +37,7 @@ use Rattle.lattice.specs.Value.{Value, valueOf, value}
 use Rattle.lattice.specs.Lattice.{numeric, sift, reduce, source, meetLists, meet, refine}
 use Rattle.lattice.specs.Answers.{ranAs, made}
 use Rattle.rows.specs.Row.{caseCell, lowCell, highCell, intervalOf, entriesOf}
+use Rattle.rows.proofs.RowLaws.{numeric-none}
 use Rattle.refinements.specs.declared.Noted.{Noted}
 use Rattle.refinements.specs.declared.Noted.the-variants.{At}
 use Rattle.refinements.specs.declared.Noted.the-variants as noted
@@ -228,15 +229,10 @@ numeric-integer Bottom = refl
 numeric-integer (Bounded low high) = refl
 numeric-integer Unbounded = refl
 
-numeric-none : (i : Interval) → entriesOf (numeric i) ≡ 0
-numeric-none Bottom = refl
-numeric-none (Bounded low high) = refl
-numeric-none Unbounded = refl
-
 module _ (constants : List ℕ) (i j : Interval) (w mw e me : ℕ) {x : Charged} (c : x ≡ chargeOf Work w 1 mw) where
   -- no entries are dropped
   narrow-numeric : {y : Run Stop Meter Value} → y ≡ dropping 0 (refine constants (numeric i) j) (meter w mw e me) → y ≡ narrow constants j (numeric i) (meter w mw e me)
-  narrow-numeric h = yes-on _ _ (meter w mw e me) (numeric-integer i) (rw (numeric-none i) h)
+  narrow-numeric h = yes-on _ _ (meter w mw e me) (numeric-integer i) (rw (← numeric-none i) h)
 
   pub numeric-stopped : {s : Stop} {n : ℕ} → x ≡ charged.Stopped s n → stopped s (meter n mw e me) ≡ narrow constants j (numeric i) (meter w mw e me)
   numeric-stopped {s} {n} q =
@@ -255,7 +251,7 @@ module _ (constants : List ℕ) (i j : Interval) (w mw e me : ℕ) {x : Charged}
 
 module _ (g : ℕ → Refinement) (id count : ℕ) (i : Interval) (w mw : ℕ) {x : Noted} (h : Places (position 0 (from g 0 count) id) w mw x) where
   pub interval-stopped : {s : Stop} {n : ℕ} → x ≡ noted.Stopped s n → Restricts (from g 0 count) id i w mw (narrowed.Stopped s n)
-  interval-stopped q = record { at = λ constants e me. restrict-stops constants g id (numeric i) count w mw e me h q (sym (numeric-none i)) (sym (sub-zero e)) }
+  interval-stopped q = record { at = λ constants e me. restrict-stops constants g id (numeric i) count w mw e me h q (numeric-none i) (sym (sub-zero e)) }
 
   module _ {k n : ℕ} (q : x ≡ At k n) where
     pub interval-free : count ≤ k → Restricts (from g 0 count) id i w mw (To i n)

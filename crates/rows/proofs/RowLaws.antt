@@ -30,6 +30,7 @@ use Rattle.lattice.specs.declared.Widening.the-variants.{HeadForm, HeadTerm, Un
 use Rattle.lattice.specs.declared.Reason.{Reason}
 use Rattle.lattice.specs.declared.Reason.the-variants.{None, Some}
 use Rattle.lattice.specs.Value.{Value, reasonNumber}
+use Rattle.lattice.specs.Lattice.{numeric}
 use Rattle.lattice.proofs.LiveLaws.{size}
 use Rattle.rows.specs.Row.{row, padded, integralityCell, caseCell, lowCell, highCell, keptCell, listOf, entriesOf, encode, integralityOf, intervalOf, reasonOf, idOf, decode, valueAt, put, valuesOf}
 use Rattle.rows.specs.WellFormed.{Proper, Short, WellFormed}
@@ -62,6 +63,12 @@ size-is v = go (v .values)
     go : (o : Option (List ℕ)) → listSize o ≡ length (listOf o)
     go none = refl
     go (some l) = refl
+
+-- a numeric value has no entries
+pub numeric-none : (i : Interval) → 0 ≡ entriesOf (numeric i)
+numeric-none Bottom = refl
+numeric-none (Bounded low high) = refl
+numeric-none Unbounded = refl
 
 -- ---- any contents read as a well-formed value
 

@@ -1,6 +1,6 @@
 -- `evaluation::after_one` meets its contract.
 use borrow.Author.Needs.{needs}
-use Rattle.evaluation.proofs.CodeLaws.{one-refused, one-made}
+use Rattle.evaluation.proofs.Parents.{one-refused, one-made}
 use Rattle.refinements.specs.Refinement.{refinementsOf}
 use Rattle.evaluation.proofs.after_one.Statement.{statement}
 use Rattle.evaluation.proofs.after_one.Tie as tie

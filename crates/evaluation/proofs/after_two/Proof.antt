@@ -1,6 +1,6 @@
 -- `evaluation::after_two` meets its contract.
 use borrow.Author.Needs.{needs}
-use Rattle.evaluation.proofs.CodeLaws.{narrows-free, two-refused, two-halted, two-made}
+use Rattle.evaluation.proofs.Parents.{narrows-free, two-refused, two-halted, two-made}
 use Rattle.refinements.specs.Refinement.{refinementsOf}
 use Rattle.evaluation.proofs.after_two.Statement.{statement}
 use Rattle.evaluation.proofs.after_two.Tie as tie

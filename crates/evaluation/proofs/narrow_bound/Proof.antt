@@ -1,6 +1,6 @@
 -- `evaluation::narrow_bound` meets its contract.
 use borrow.Author.Needs.{needs}
-use Rattle.evaluation.proofs.CodeLaws.{bound-mixed, bound-refused, bound-met}
+use Rattle.evaluation.proofs.Operands.{bound-mixed, bound-refused, bound-met}
 use Rattle.evaluation.proofs.narrow_bound.Statement.{statement}
 use Rattle.evaluation.proofs.narrow_bound.Tie as tie
 

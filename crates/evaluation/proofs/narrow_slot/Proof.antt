@@ -1,6 +1,6 @@
 -- `evaluation::narrow_slot` meets its contract.
 use borrow.Author.Needs.{needs}
-use Rattle.evaluation.proofs.CodeLaws.{listed-narrowed, unlisted-narrowed}
+use Rattle.evaluation.proofs.Operands.{listed-narrowed, unlisted-narrowed}
 use Rattle.rows.specs.Row.{valueAt}
 use Rattle.evaluation.proofs.narrow_slot.Statement.{statement}
 use Rattle.evaluation.proofs.narrow_slot.Tie as tie

@@ -1,6 +1,6 @@
 -- `evaluation::narrowed` meets its contract.
 use borrow.Author.Needs.{needs}
-use Rattle.evaluation.proofs.CodeLaws.{narrows-stopped, narrows-to}
+use Rattle.evaluation.proofs.Parents.{narrows-stopped, narrows-to}
 use Rattle.evaluation.proofs.narrowed.Statement.{statement}
 use Rattle.evaluation.proofs.narrowed.Tie as tie
 

@@ -1,6 +1,6 @@
 -- `evaluation::operand_of` meets its contract.
 use borrow.Author.Needs.{needs}
-use Rattle.evaluation.proofs.CodeLaws.{seen-halted, seen-done}
+use Rattle.evaluation.proofs.Operands.{seen-halted, seen-done}
 use Rattle.evaluation.proofs.operand_of.Statement.{statement}
 use Rattle.evaluation.proofs.operand_of.Tie as tie
 

@@ -1,6 +1,6 @@
 -- `evaluation::plain` meets its contract.
 use borrow.Author.Needs.{needs}
-use Rattle.evaluation.proofs.CodeLaws.{plain-stopped, plain-made}
+use Rattle.evaluation.proofs.Operands.{plain-stopped, plain-made}
 use Rattle.evaluation.proofs.plain.Statement.{statement}
 use Rattle.evaluation.proofs.plain.Tie as tie
 

@@ -1,6 +1,6 @@
 -- `evaluation::slot_operand` meets its contract.
 use borrow.Author.Needs.{needs}
-use Rattle.evaluation.proofs.CodeLaws.{copy-stopped, search-stopped, slot-seen, slot-narrowed}
+use Rattle.evaluation.proofs.Operands.{copy-stopped, search-stopped, slot-seen, slot-narrowed}
 use Rattle.rows.specs.Row.{valueAt}
 use Rattle.evaluation.proofs.slot_operand.Statement.{statement}
 use Rattle.evaluation.proofs.slot_operand.Tie as tie
