@@ -1,5 +1,6 @@
 //! What a comparison says of its operands, and what that says of a slot (the arithmetic of `refine_comparison` and `refine_operand` of
 //! transfer.rs): where an operand is a slot and a literal, the slot lies in an interval too.
+#![tactic(auto)]
 ghost use Rattle.std.specs.Prelude.{◌≡◌};
 ghost use Rattle.interval.specs.Interval.{endpoints_of};
 ghost use Rattle.operators.specs.Answers.{read};
@@ -11,7 +12,7 @@ use operators::Literal;
 use rules::Relation;
 
 // A slot and a literal: slot + constant, slot − constant, or constant − slot.
-#[derive(Drop)]
+#[derive(Clone, Copy)]
 pub enum Affine {
     None,
     Sum { slot: u64, constant: i32 },

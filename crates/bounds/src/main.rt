@@ -1,5 +1,6 @@
 //! Document 01's example: argument 0 begins with 0 and gets slot + 1 where slot is in argument 0 and slot < 10. Writes the report of its
 //! run, or the line of the first refusal.
+#![tactic(auto)]
 use libc::STDOUT_FILENO;
 use limits::{Limits, Refusal};
 use nodes::{BinaryOp, Expression};
@@ -8,7 +9,7 @@ use rules::{Binding, BindingItem, Guard, GuardItem, Head, Lengths, Relation, Rul
 use store::{Answer, Done, Store};
 
 // The store after a call, the call's id if it has one, and whether it was refused. After a refusal nothing more is called.
-#[derive(Drop)]
+#[derive(Clone, Copy)]
 struct Built {
     store: Store,
     id: u64,
@@ -16,7 +17,7 @@ struct Built {
 }
 
 // The ids of the constants and of the expressions, and the store after them.
-#[derive(Drop)]
+#[derive(Clone, Copy)]
 struct Numbers {
     built: Built,
     zero: u64,
@@ -24,7 +25,7 @@ struct Numbers {
     ten: u64,
 }
 
-#[derive(Drop)]
+#[derive(Clone, Copy)]
 struct Forms {
     built: Built,
     slot: u64,

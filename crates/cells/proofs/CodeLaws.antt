@@ -41,7 +41,7 @@ module _ (n : ℕ) (h : n < 2 ^ 32) where
   down_fits = rw read (sfits_widen {w = w32} tt number)
 
   shifted_down : to_z w64 (of_z w64 (to_z w64 n -ℤ pos (2 ^ 31))) ≡ of_cell n
-  shifted_down = rw read (to_z-of_z (sfits_widen {w = w32} tt number))
+  shifted_down = rw read (to_z-of_z {w = w64} (sfits_widen {w = w32} tt number))
 
   pub down_signed : SFits w32 (to_z w64 (of_z w64 (to_z w64 n -ℤ pos (2 ^ 31))))
   down_signed = rw shifted_down number

@@ -1,6 +1,7 @@
 //! The value of an expression over the values of a rule's slots (`expression` and `known_identity` of transfer.rs). Expressions
 //! are worked out by recursion over their table: the node's id falls. Every value that is made on the way is released by name.
 //! Inside an expression values are handed on as operands: no operator asks for more than a bound and the length of a list.
+#![tactic(auto)]
 ghost use Rattle.std.specs.Prelude.{◌≡◌};
 ghost use Rattle.limits.specs.Metered.{after};
 ghost use Rattle.limits.specs.Meter.{meter};
@@ -23,21 +24,21 @@ use refinements::{Narrowed, Noted};
 use rows::Copied;
 
 // An interval with the work after it.
-#[derive(Drop)]
+#[derive(Clone, Copy)]
 pub enum Combined {
     To(Interval, u64),
     Stopped(Stop, u64),
 }
 
 // What is asked of a value that is an operand: its bound, and how many entries its list has. Behind them the counts: work and live entries.
-#[derive(Drop)]
+#[derive(Clone, Copy)]
 pub enum Operand {
     To(Bound, u64, u64, u64),
     Stopped(Stop, u64, u64),
 }
 
 // Two operands, with the counts behind them.
-#[derive(Drop)]
+#[derive(Clone, Copy)]
 pub enum Pair {
     To(Bound, u64, Bound, u64, u64, u64),
     Stopped(Stop, u64, u64),

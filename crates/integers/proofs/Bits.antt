@@ -67,10 +67,10 @@ pub sf64 : (z : ℤ) → mag z < 2 ^ 63 → SFits w64 z
 sf64 z p = record { sfits = p }
 
 pub back32 : (z : ℤ) → mag z < 2 ^ 31 → to_z w32 (of_z w32 z) ≡ z
-back32 z p = to_z-of_z (record { sfits = p })
+back32 z p = to_z-of_z {w = w32} (record { sfits = p })
 
 pub back64 : (z : ℤ) → mag z < 2 ^ 63 → to_z w64 (of_z w64 z) ≡ z
-back64 z p = to_z-of_z (record { sfits = p })
+back64 z p = to_z-of_z {w = w64} (record { sfits = p })
 
 -- ---- 32 bits, by the order
 

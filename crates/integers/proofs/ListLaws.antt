@@ -79,6 +79,7 @@ has_is l n = (to l, back l)
         go (inr h) r = Memᴰ.tail (r h)
 
     back : (l : List ℕ) → Memᴰ n l → has l n ≡ true
+    back [] m = elim m [ ]
     back (x ∷ l) (Memᴰ.head e) = or_left (eqb n x) (has l n) (eq-eqb n x e)
     back (x ∷ l) (Memᴰ.tail m) = or_right (eqb n x) (has l n) (back l m)
 
@@ -128,6 +129,7 @@ module _ (p : ℕ → Bool) where
   passing_in l n = (to l, λ h. back l h.0 h.1)
     where
       to : (l : List ℕ) → Memᴰ n (passing p l) → Memᴰ n l × (p n ≡ true)
+      to [] m = elim m [ ]
       to (x ∷ l) m = go (p x) refl m (to l)
         where
           step : (Memᴰ n (passing p l) → Memᴰ n l × (p n ≡ true)) → p x ≡ true → (n ≡ x) ⊎ Memᴰ n (passing p l) → Memᴰ n (x ∷ l) × (p n ≡ true)
@@ -139,6 +141,7 @@ module _ (p : ℕ → Bool) where
           go false e m r = let k = r m in (Memᴰ.tail k.0, k.1)
 
       back : (l : List ℕ) → Memᴰ n l → p n ≡ true → Memᴰ n (passing p l)
+      back [] x'' e = elim x'' [ ]
       back (x ∷ l) (Memᴰ.head q) e = let f : p x ≡ true = subst (λ (y : ℕ). p y ≡ true) q e in rw f (Memᴰ.head q)
       back (x ∷ l) (Memᴰ.tail m) e = go (p x) (back l m e)
         where

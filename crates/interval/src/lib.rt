@@ -1,19 +1,20 @@
 //! Intervals and bounds (lattice.rs; `Integrality`, `Interval` and `Bound` of numeric.rs). Hull and meet are those of the interval
 //! lattice of Cousot and Cousot (1977), and `Unbounded` is its line of all integers.
+#![tactic(auto)]
 ghost use Rattle.std.specs.Prelude.{◌≡◌};
 ghost use Rattle.integers.specs.Order.{least32, greatest32, min_z, max_z};
 ghost use Rattle.interval.specs.Interval.{ascending_of, hull_of, meet_of, checked_of, endpoints_of, contains_of, same_of};
 ghost use Rattle.interval.specs.Bound.{top_of, bottom_of, numeric_of, constant_of, either_of, both_of, hull_bound, meet_bound, same_bound, allows_of};
 
 // Whether every possible value is a number.
-#[derive(Drop)]
+#[derive(Clone, Copy)]
 pub enum Integrality {
     Integer,
     Mixed,
 }
 
 // A bound on the numbers alone.
-#[derive(Drop)]
+#[derive(Clone, Copy)]
 pub enum Interval {
     Bottom,
     Bounded { low: i32, high: i32 },
@@ -21,21 +22,21 @@ pub enum Interval {
 }
 
 // The ends of an interval, if it has a number.
-#[derive(Drop)]
+#[derive(Clone, Copy)]
 pub enum Endpoints {
     Nothing,
     Between { low: i32, high: i32 },
 }
 
 // The numbers of a value, and whether names are among its values.
-#[derive(Drop)]
+#[derive(Clone, Copy)]
 pub struct Bound {
     pub integrality: Integrality,
     pub interval: Interval,
 }
 
 // A constant as the analysis sees it: a number, a name that is retained, or one too large to be.
-#[derive(Drop)]
+#[derive(Clone, Copy)]
 pub enum Constant {
     Number(i32),
     Name,

@@ -63,7 +63,7 @@ in_held cs o i l m h = hit l bottom_of m
     keep (j ∷ l) b p = keep l _ (in_hull o b (bounds.constant_of (constant_at cs j)) (inl p))
 
     hit : (l : List ℕ) (b : Bound) → Memᴰ i l → InBound o (foldl (λ g j. hull_bound g (bounds.constant_of (constant_at cs j))) b l)
-    hit [] b m = absurd (mathlib.Core.List.Memᴰ.not_nil m)
+    hit [] b m = absurd (mathlib.Core.List.Memᴰ.not-nil m)
     hit (j ∷ l) b m =
         ⊎_elim
         (λ e. keep l _ (in_hull o b (bounds.constant_of (constant_at cs j)) (inr (subst (λ (n : ℕ). InBound o (bounds.constant_of (constant_at cs n))) e h))))

@@ -1,6 +1,7 @@
 //! Abstract values (lattice.rs, and the reasons of value.rs): a bound, perhaps a list of constants, and why there is none.
 //! Values go in and come back by value. Work and live entries are handed through as numbers, beside their limits; whoever makes
 //! a list releases its entries on every way out.
+#![tactic(auto)]
 ghost use Rattle.std.specs.Prelude.{◌≡◌, [], take};
 ghost use Rattle.std.proofs.Math.Option.{some, none};
 ghost use Rattle.limits.specs.Meter.{meter};
@@ -16,7 +17,7 @@ use limits::{Charged, Resource, Stop};
 use lists::{Found, Kept, Trial, Verdict};
 
 // Why an argument lost its list.
-#[derive(Drop)]
+#[derive(Clone, Copy)]
 pub enum Widening {
     HeadForm,
     HeadTerm,
@@ -26,14 +27,14 @@ pub enum Widening {
     Dependency,
 }
 
-#[derive(Drop)]
+#[derive(Clone, Copy)]
 pub enum Reason {
     None,
     Some(Widening),
 }
 
 // A bound, and where `kept` the list of the first `len` ids. Ids behind the list mean nothing.
-#[derive(Drop)]
+#[derive(Clone, Copy)]
 pub struct Abstract {
     pub ids: [u16; 16],
     pub len: usize,
@@ -42,14 +43,14 @@ pub struct Abstract {
     pub reason: Reason,
 }
 
-#[derive(Drop)]
+#[derive(Clone, Copy)]
 pub enum Outcome {
     Done,
     Stopped(Stop),
 }
 
 // A value with the counts after it. Where the outcome is a stop there is no value, and the field means nothing.
-#[derive(Drop)]
+#[derive(Clone, Copy)]
 pub struct Made {
     pub outcome: Outcome,
     pub value: Abstract,
@@ -58,7 +59,7 @@ pub struct Made {
 }
 
 // What is left of a list in a meet, with the counts after it.
-#[derive(Drop)]
+#[derive(Clone, Copy)]
 struct Sifted {
     outcome: Outcome,
     ids: [u16; 16],
@@ -68,7 +69,7 @@ struct Sifted {
 }
 
 // A bound with the work after it.
-#[derive(Drop)]
+#[derive(Clone, Copy)]
 enum Reduced {
     To(Bound, u64),
     Stopped(Stop, u64, u64),

@@ -1,5 +1,6 @@
 //! The thin layer that changes lent counts in place (01, "Form by location"). Each function loads the counts, has a by-value
 //! function make the new ones, and stores them.
+#![tactic(auto)]
 ghost use Rattle.std.specs.Prelude.{◌≡◌};
 ghost use Rattle.limits.specs.Budget.{charge, released, widened_once};
 ghost use Rattle.lent.specs.Lent.{budget_of, settled, After};
@@ -7,14 +8,14 @@ ghost use Rattle.lent.specs.Lent.{budget_of, settled, After};
 use limits::{Billed, Budget, Limits, Resource, Statistics, Stop};
 
 // What a charge of lent counts answers.
-#[derive(Drop)]
+#[derive(Clone, Copy)]
 pub enum Outcome {
     Paid,
     Stopped(Stop),
 }
 
 // A charge's answer beside the counts that it leaves.
-#[derive(Drop)]
+#[derive(Clone, Copy)]
 pub struct Settled {
     pub outcome: Outcome,
     pub statistics: Statistics,

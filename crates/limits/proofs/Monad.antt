@@ -185,6 +185,7 @@ module _ {E S A B : Type 0} where
   pub fold_hits : {J I : B → Type 0} {f : B → A → Metered E S B} {x : A} → ((b : B) (a : A) → J b → Ensures J (f b a)) → ((b : B) (a : A) → I b → Ensures I (f b a)) →
       ((b : B) → J b → Ensures I (f b x)) → (b : B) (l : List A) → Memᴰ x l → J b → Ensures I (fold_m f b l)
   unfolding fold_m
+  fold_hits {I = I} {f = f} j k h b [] x3 q = elim x3 [ ]
   fold_hits {I} {f} j k h b (a ∷ l) (Memᴰ.head e) q =
       bind (subst (λ (y : A). Ensures I (f b y)) e (h b q)) (λ b' i. fold_keeps (λ _. Unit {0}) (λ b₁ a₁ _. k b₁ a₁) b' l (known l) i)
     where

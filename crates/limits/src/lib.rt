@@ -1,5 +1,6 @@
 //! Limits and counts (limits.rs, and `Budget` of numeric.rs): what a call may charge, what it has charged, and what it is
 //! turned down with. Counts go in by value and come back beside the outcome; no count ever wraps.
+#![tactic(auto)]
 ghost use Rattle.std.specs.Prelude.{◌≡◌, ◌-◌};
 ghost use Rattle.limits.specs.Charge.{charge_of, units_of};
 ghost use Rattle.limits.specs.Records.{count_of, limit_of, with_count, with_statistics, fresh};
@@ -8,7 +9,7 @@ ghost use Rattle.limits.specs.Budget.{ran, charge, released, widened_once};
 ghost use Rattle.limits.specs.Meter.{meter, with_meter};
 
 // Inclusive ceilings. Beside each stands its name in limits.rs.
-#[derive(Drop)]
+#[derive(Clone, Copy)]
 pub struct Limits {
     pub work: u64, // max_work
     pub predicates: u64, // max_predicates
@@ -22,7 +23,7 @@ pub struct Limits {
 }
 
 // What has been charged. `entries` are live and go down again, `widened` has no limit, the others only grow.
-#[derive(Drop)]
+#[derive(Clone, Copy)]
 pub struct Statistics {
     pub work: u64,
     pub predicates: u64,
@@ -35,7 +36,7 @@ pub struct Statistics {
 }
 
 // The seven counts that have a limit.
-#[derive(Drop)]
+#[derive(Clone, Copy)]
 pub enum Resource {
     Work,
     Predicates,
@@ -47,7 +48,7 @@ pub enum Resource {
 }
 
 // A charge that would pass its limit. The observed sum may need 65 bits: it is high * 2^64 + low.
-#[derive(Drop)]
+#[derive(Clone, Copy)]
 pub struct Stop {
     pub resource: Resource,
     pub limit: u64,
@@ -56,7 +57,7 @@ pub struct Stop {
 }
 
 // Why a call is turned down. Causes are kept apart where 01 gives several one number.
-#[derive(Drop)]
+#[derive(Clone, Copy)]
 pub enum Refusal {
     // The phase of the store does not admit the call.
     Closed,
@@ -75,21 +76,21 @@ pub enum Refusal {
 }
 
 // What a charge makes of one count, which comes back beside the outcome.
-#[derive(Drop)]
+#[derive(Clone, Copy)]
 pub enum Charged {
     Paid(u64),
     Stopped(Stop, u64),
 }
 
 // The limits and the counts of one store.
-#[derive(Drop)]
+#[derive(Clone, Copy)]
 pub struct Budget {
     pub limits: Limits,
     pub statistics: Statistics,
 }
 
 // What a charge makes of a budget.
-#[derive(Drop)]
+#[derive(Clone, Copy)]
 pub enum Billed {
     Paid(Budget),
     Stopped(Stop, Budget),

@@ -56,7 +56,7 @@ module _ (n : ℕ) where
   union_to (x ∷ xs) ys m = mix_to x xs (union_to xs) ys m
 
   union_from : (xs ys : List ℕ) → Memᴰ n xs ⊎ Memᴰ n ys → Memᴰ n (union xs ys)
-  union_from [] ys m = ⊎_elim (λ k. absurd (mathlib.Core.List.Memᴰ.not_nil k)) (λ k. k) m
+  union_from [] ys m = ⊎_elim (λ k. absurd (mathlib.Core.List.Memᴰ.not-nil k)) (λ k. k) m
   union_from (x ∷ xs) ys m = mix_from x xs (union_from xs) ys m
 
 pub union_in : (n : ℕ) (xs ys : List ℕ) → Memᴰ n (union xs ys) ↔ (Memᴰ n xs ⊎ Memᴰ n ys)

@@ -1,5 +1,6 @@
 //! Lists of at most 16 constant ids, strictly increasing: an array and a length. Their union, whether one has an id, and the
 //! charge of their entries (`push`, `permits` and the loops of `join` and `same` of lattice.rs).
+#![tactic(auto)]
 ghost use Rattle.std.specs.Prelude.{◌≡◌, [], min, length, take, drop};
 ghost use Rattle.limits.specs.Meter.{meter};
 ghost use Rattle.lists.specs.Lists.{head_of, next_of, union, take_one, collect, permits_in, same_ids};
@@ -8,7 +9,7 @@ ghost use Rattle.lists.specs.Answers.{Pushes, Retains, Answers, tried, merged};
 use limits::{Charged, Resource, Stop};
 
 // An answer with the work after it.
-#[derive(Drop)]
+#[derive(Clone, Copy)]
 pub enum Verdict {
     Yes(u64),
     No(u64),
@@ -16,7 +17,7 @@ pub enum Verdict {
 }
 
 // Whether an id was taken into a list, with the work and the live entries after it.
-#[derive(Drop)]
+#[derive(Clone, Copy)]
 pub enum Trial {
     Taken(u64, u64),
     Left(u64, u64),
@@ -24,20 +25,20 @@ pub enum Trial {
 }
 
 // The id at a place of a list, and the place after it.
-#[derive(Drop)]
+#[derive(Clone, Copy)]
 pub enum Found {
     Nothing,
     Id { id: u16, next: usize },
 }
 
 // The next id of a union, and the places after it in the two lists.
-#[derive(Drop)]
+#[derive(Clone, Copy)]
 pub enum Next {
     End,
     Take { id: u16, a: usize, b: usize },
 }
 
-#[derive(Drop)]
+#[derive(Clone, Copy)]
 pub enum Kept {
     All,
     None,
@@ -45,7 +46,7 @@ pub enum Kept {
 }
 
 // A union with the counts after it. Only where all of it is kept do the ids and the length mean something.
-#[derive(Drop)]
+#[derive(Clone, Copy)]
 pub struct Merged {
     pub kept: Kept,
     pub ids: [u16; 16],

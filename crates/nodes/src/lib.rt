@@ -1,17 +1,18 @@
 //! Expressions (numeric.rs) and their rows in a lent table: four cells that tell the expression, and a fifth for its nesting. Cells beyond
 //! the table read as 0 and are not written; any contents read as an expression whose children have smaller ids.
+#![tactic(auto)]
 ghost use Rattle.std.specs.Prelude.{◌≡◌, ◌*◌, min, get_or, set};
 ghost use Rattle.nodes.specs.Node.{unary_number, binary_number, mark_of, node, node_of, same_node, widening_of, unread, unary_of, binary_of, expression_of, row, node_at, nesting_at, expression_at, put_node};
 
 use lattice::Widening;
 
-#[derive(Drop)]
+#[derive(Clone, Copy)]
 pub enum UnaryOp {
     Negate,
     BitwiseNot,
 }
 
-#[derive(Drop)]
+#[derive(Clone, Copy)]
 pub enum BinaryOp {
     Add,
     Sub,
@@ -25,7 +26,7 @@ pub enum BinaryOp {
 }
 
 // Ids and slots are as the caller gives them: any 64-bit number.
-#[derive(Drop)]
+#[derive(Clone, Copy)]
 pub enum Expression {
     Constant(u64),
     Slot(u64),
@@ -36,7 +37,7 @@ pub enum Expression {
 }
 
 // The cells that tell an expression.
-#[derive(Drop)]
+#[derive(Clone, Copy)]
 pub struct Node {
     pub kind: u64,
     pub operator: u64,

@@ -1,5 +1,6 @@
 //! Readings of a store whose run has ended (numeric.rs): arguments, their contexts, the slots of rules, constants, and how the run ended.
 //! A reading changes nothing, and holds for any header and any contents. The statistics are a field of the header.
+#![tactic(auto)]
 ghost use Rattle.std.specs.Prelude.{◌≡◌, ◌&&◌, ◌*◌, ◌<◌, ◌≤◌, min, eqb, length, get_or};
 ghost use Rattle.rules.specs.Rule.{row};
 ghost use Rattle.results.specs.Result.{place};
@@ -13,35 +14,35 @@ use limits::{Refusal, Stop};
 use store::{Context, Phase, Store};
 
 // Whether a reading is given.
-#[derive(Drop)]
+#[derive(Clone, Copy)]
 pub enum Read {
     Given,
     Refused(Refusal),
 }
 
 // An argument: its bound, list and reason. Where it is refused the value means nothing.
-#[derive(Drop)]
+#[derive(Clone, Copy)]
 pub struct Valued {
     pub outcome: Read,
     pub value: Abstract,
 }
 
 // A number of contexts, or a context.
-#[derive(Drop)]
+#[derive(Clone, Copy)]
 pub enum Counted {
     Given(u64),
     Refused(Refusal),
 }
 
 // The bound of a slot.
-#[derive(Drop)]
+#[derive(Clone, Copy)]
 pub enum Bounded {
     Given(Bound),
     Refused(Refusal),
 }
 
 // The key of a constant. The bytes of a name are a reading of their own; a large name is one that is not retained.
-#[derive(Drop)]
+#[derive(Clone, Copy)]
 pub enum Keyed {
     Number(i32),
     Name,
@@ -50,7 +51,7 @@ pub enum Keyed {
 }
 
 // How the run ended: stopped, with its Stop and the context in force there.
-#[derive(Drop)]
+#[derive(Clone, Copy)]
 pub enum Ended {
     Completed,
     Stopped(Stop, Context),

@@ -1,5 +1,6 @@
 //! One pass (the loop of `run` in engine.rs): a round, then each old value joined with its new one and widened; and passes until one
 //! changes nothing. Where a pass is stopped, the current values stay, and nothing else that it made stays live.
+#![tactic(auto)]
 ghost use Rattle.std.specs.Prelude.{◌≡◌, false};
 ghost use Rattle.limits.specs.Meter.{meter};
 ghost use Rattle.lattice.specs.Value.{value_of};
@@ -19,7 +20,7 @@ use store::Context;
 use widening::{Growth, Widened};
 
 // The new value of an argument, its growth, and whether it has changed. Where the outcome is a stop the three mean nothing.
-#[derive(Drop)]
+#[derive(Clone, Copy)]
 pub struct Grew {
     pub outcome: Outcome,
     pub value: Abstract,
@@ -30,14 +31,14 @@ pub struct Grew {
 }
 
 // Arguments of a pass: whether one has changed.
-#[derive(Drop)]
+#[derive(Clone, Copy)]
 pub enum Advanced {
     Done(bool, Budget),
     Stopped(Stop, Budget),
 }
 
 // What a pass leaves: whether it has changed a bound or a list.
-#[derive(Drop)]
+#[derive(Clone, Copy)]
 pub enum Passed {
     Settled(Budget, Context),
     Changed(Budget, Context),

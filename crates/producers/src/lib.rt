@@ -1,5 +1,6 @@
 //! `rule` (input.rs): a whole rule is checked, in the Rust's order, and becomes a row. What it charged before a refusal stays charged, and
 //! what its heads recorded stays recorded.
+#![tactic(auto)]
 ghost use Rattle.std.specs.Prelude.{◌≡◌, ◌+◌, ◌≤◌, ◌<◌, take, true};
 ghost use Rattle.store.specs.Store.{with_rules};
 ghost use Rattle.store.specs.Calls.{charged};
@@ -14,7 +15,7 @@ use rules::{Binding, BindingItem, Guard, GuardItem, Head, Rule};
 use store::{Answer, Done, Store};
 
 // What a check makes of the work.
-#[derive(Drop)]
+#[derive(Clone, Copy)]
 pub enum Checked {
     Passed(u64),
     Refused(Refusal, u64),

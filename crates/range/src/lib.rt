@@ -1,25 +1,26 @@
 //! Conservative ranges for checked arithmetic (range.rs): sums, differences, products and negation, worked in 64 bits.
 //! An answer encloses every result over its operands, with both ends in 32 bits; otherwise the range declines.
+#![tactic(auto)]
 ghost use Rattle.std.specs.Prelude.{◌≡◌, ◌+ℤ◌, ◌-ℤ◌, ◌*ℤ◌};
 ghost use Rattle.integers.specs.Order.{min_z, max_z};
 ghost use Rattle.range.specs.Range.{checked_of, point_of, bounds_of, sum_of, difference_of, corners_of, product_of, negation_of};
 
 // A nonempty interval of 32-bit numbers, both ends included.
-#[derive(Drop)]
+#[derive(Clone, Copy)]
 pub struct Range {
     low: i32,
     high: i32,
 }
 
 // A range, or none where not every result is known to fit 32 bits.
-#[derive(Drop)]
+#[derive(Clone, Copy)]
 pub enum Ranged {
     Within(Range),
     Declined,
 }
 
 // The two ends of a range.
-#[derive(Drop)]
+#[derive(Clone, Copy)]
 pub struct Ends {
     pub low: i32,
     pub high: i32,

@@ -1,5 +1,6 @@
 //! What guards have found of expressions (`refinements` of transfer.rs): rows of a lent table, each an expression's id and an interval.
 //! Cells beyond the table read as 0 and are not written; any contents read as refinements.
+#![tactic(auto)]
 ghost use Rattle.std.specs.Prelude.{◌≡◌, min, ◌*◌};
 ghost use Rattle.limits.specs.Meter.{meter};
 ghost use Rattle.lattice.specs.Value.{value_of};
@@ -13,14 +14,14 @@ use lattice::{Abstract, Made, Outcome};
 use limits::{Charged, Resource, Stop};
 
 // A number, a place or how many there are, with the work after it.
-#[derive(Drop)]
+#[derive(Clone, Copy)]
 pub enum Noted {
     At(usize, u64),
     Stopped(Stop, u64),
 }
 
 // The interval of a numeric value, with the work after it.
-#[derive(Drop)]
+#[derive(Clone, Copy)]
 pub enum Narrowed {
     To(Interval, u64),
     Stopped(Stop, u64),

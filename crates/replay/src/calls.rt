@@ -8,7 +8,7 @@ use crate::words::{Cursor, ReadNumber, ReadSigned};
 use store::{Answer, Done, Store};
 
 // Where reading stands, the store that a job has so far, and the place behind the last line of the output.
-#[derive(Drop)]
+#[derive(Clone, Copy)]
 pub struct Session {
     pub cursor: Cursor,
     pub store: Store,

@@ -12,21 +12,21 @@ const PARTS: u64 = 64;
 
 pub const NAME: usize = 128;
 
-#[derive(Drop)]
+#[derive(Clone, Copy)]
 pub struct ReadLimits {
     pub limits: Limits,
     pub cursor: Cursor,
 }
 
 // Two ids, or an id and a position.
-#[derive(Drop)]
+#[derive(Clone, Copy)]
 pub struct ReadPair {
     pub first: u64,
     pub second: u64,
     pub cursor: Cursor,
 }
 
-#[derive(Drop)]
+#[derive(Clone, Copy)]
 pub struct ReadInterval {
     pub argument: u64,
     pub low: i32,
@@ -34,20 +34,20 @@ pub struct ReadInterval {
     pub cursor: Cursor,
 }
 
-#[derive(Drop)]
+#[derive(Clone, Copy)]
 pub struct ReadExpression {
     pub expression: Expression,
     pub cursor: Cursor,
 }
 
-#[derive(Drop)]
+#[derive(Clone, Copy)]
 pub struct ReadRule {
     pub rule: Rule,
     pub cursor: Cursor,
 }
 
 // Three of the nine limits.
-#[derive(Drop)]
+#[derive(Clone, Copy)]
 struct ReadThree {
     a: u64,
     b: u64,
@@ -55,33 +55,33 @@ struct ReadThree {
     cursor: Cursor,
 }
 
-#[derive(Drop)]
+#[derive(Clone, Copy)]
 struct ReadBinding {
     binding: Binding,
     cursor: Cursor,
 }
 
-#[derive(Drop)]
+#[derive(Clone, Copy)]
 struct ReadGuard {
     guard: Guard,
     cursor: Cursor,
 }
 
-#[derive(Drop)]
+#[derive(Clone, Copy)]
 struct ReadBindings {
     items: [BindingItem; 32],
     count: u64,
     cursor: Cursor,
 }
 
-#[derive(Drop)]
+#[derive(Clone, Copy)]
 struct ReadGuards {
     items: [GuardItem; 32],
     count: u64,
     cursor: Cursor,
 }
 
-#[derive(Drop)]
+#[derive(Clone, Copy)]
 struct ReadHeads {
     items: [Head; 16],
     count: u64,

@@ -5,7 +5,7 @@ use libc::STDIN_FILENO;
 
 // Where reading stands: the next byte and the end of what the buffer has; a place beyond the end says that the text is over. Once the text
 // is found to be no job, it has a fault, and all later readings give 0. All fields are words: flags would be copied by way of memory.
-#[derive(Drop)]
+#[derive(Clone, Copy)]
 pub struct Cursor {
     pub at: usize,
     pub end: usize,
@@ -13,20 +13,20 @@ pub struct Cursor {
 }
 
 // A number of the text, and where reading stands behind it.
-#[derive(Drop)]
+#[derive(Clone, Copy)]
 pub struct ReadNumber {
     pub value: u64,
     pub cursor: Cursor,
 }
 
-#[derive(Drop)]
+#[derive(Clone, Copy)]
 pub struct ReadSigned {
     pub value: i32,
     pub cursor: Cursor,
 }
 
 // What the digits of a word have given so far: a number, or one of more than 64 bits.
-#[derive(Drop)]
+#[derive(Clone, Copy)]
 struct Digits {
     value: u64,
     large: bool,
@@ -35,7 +35,7 @@ struct Digits {
 }
 
 // An integer of any type.
-#[derive(Drop)]
+#[derive(Clone, Copy)]
 struct ReadWord {
     negative: bool,
     value: u64,

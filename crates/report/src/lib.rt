@@ -1,5 +1,6 @@
 //! The report: each line of 01 written into a lent buffer. A line holds for any header and any contents; where it is refused, the buffer
 //! stays as it was.
+#![tactic(auto)]
 ghost use Rattle.std.specs.Prelude.{◌≡◌, ◌+◌, ◌≤◌, cond, length};
 ghost use Rattle.limits.specs.Refusal.{told};
 ghost use Rattle.lattice.specs.Value.{value_of};
@@ -17,7 +18,7 @@ use store::Store;
 pub const LINE: usize = 256;
 
 // How long the line is.
-#[derive(Drop)]
+#[derive(Clone, Copy)]
 pub enum Written {
     Length(usize),
     Refused(Refusal),

@@ -1,5 +1,6 @@
 //! One round (`round` and `image` of engine.rs): all rules applied to given values, their heads joined into a copy of the seeds. A rule's
 //! slots stand in tables of its own application and are dropped with it; where a round is stopped, nothing of its result stays live.
+#![tactic(auto)]
 ghost use Rattle.std.specs.Prelude.{◌≡◌};
 ghost use Rattle.limits.specs.Meter.{meter};
 ghost use Rattle.lattice.specs.Value.{value_of};
@@ -30,7 +31,7 @@ pub const REFINEMENTS: usize = 256;
 pub const ARGUMENTS: usize = 6144;
 
 // The budget after a step of a run, and the context in force there.
-#[derive(Drop)]
+#[derive(Clone, Copy)]
 pub enum Ran {
     Done(Budget, Context),
     Stopped(Stop, Budget, Context),

@@ -1,5 +1,6 @@
 //! Abstract values in lent tables: a row of ROW cells for each. Cells beyond a table read as 0 and are not written, so that
 //! any table and any row number will do; any contents read as a value.
+#![tactic(auto)]
 ghost use Rattle.std.specs.Prelude.{◌≡◌, min, ◌+◌, ◌-◌, ◌*◌, ◌≤◌, length, get_or, take, drop};
 ghost use Rattle.std.proofs.lemmas.List.Edits.{sets};
 ghost use Rattle.cells.specs.Cells.{of_cell};
@@ -15,7 +16,7 @@ use lattice::{Abstract, Reason, Widening};
 use limits::{Charged, Resource, Stop};
 
 // The counts after a copy is made: work and live entries.
-#[derive(Drop)]
+#[derive(Clone, Copy)]
 pub enum Copied {
     To(u64, u64),
     Stopped(Stop, u64, u64),

@@ -1,4 +1,5 @@
 //! Rules (numeric.rs) and their rows in a lent table. Cells beyond the table read as 0; any contents read as a rule.
+#![tactic(auto)]
 ghost use Rattle.std.specs.Prelude.{◌≡◌, [], ◌∷◌, map, min, ◌+◌, ◌*◌, ◌≤◌, ◌<◌, set, take};
 ghost use Rattle.std.proofs.lemmas.List.Edits.{sets};
 ghost use Rattle.rules.specs.Rule.{function_number, relation_number, binding_cells, guard_cells, head_cells, mark_of, number_of, fixed_cells, flat, cell, row, put_rule};
@@ -6,7 +7,7 @@ ghost use Rattle.rules.specs.Read.{function_of, relation_of, binding_of, guard_o
 
 use store::Context;
 
-#[derive(Drop)]
+#[derive(Clone, Copy)]
 pub enum AggregateFunction {
     Count,
     Sum,
@@ -15,7 +16,7 @@ pub enum AggregateFunction {
     Max,
 }
 
-#[derive(Drop)]
+#[derive(Clone, Copy)]
 pub enum Relation {
     Lt,
     Le,
@@ -26,7 +27,7 @@ pub enum Relation {
 }
 
 // Ids and slots are as the caller gives them: any 64-bit number.
-#[derive(Drop)]
+#[derive(Clone, Copy)]
 pub enum Binding {
     Positive {
         slot: u64,
@@ -47,7 +48,7 @@ pub enum Binding {
     },
 }
 
-#[derive(Drop)]
+#[derive(Clone, Copy)]
 pub enum Guard {
     Compare {
         left: u64,
@@ -61,25 +62,25 @@ pub enum Guard {
     },
 }
 
-#[derive(Drop)]
+#[derive(Clone, Copy)]
 pub struct Head {
     pub argument: u64,
     pub value: u64,
 }
 
 // An array holds structs.
-#[derive(Drop)]
+#[derive(Clone, Copy)]
 pub struct BindingItem {
     pub binding: Binding,
 }
 
-#[derive(Drop)]
+#[derive(Clone, Copy)]
 pub struct GuardItem {
     pub guard: Guard,
 }
 
 // How many bindings, guards, heads and integer queries a rule has.
-#[derive(Drop)]
+#[derive(Clone, Copy)]
 pub struct Lengths {
     pub bindings: u64,
     pub guards: u64,
@@ -87,7 +88,7 @@ pub struct Lengths {
     pub queries: u64,
 }
 
-#[derive(Drop)]
+#[derive(Clone, Copy)]
 pub struct Rule {
     pub slots: u64,
     pub bindings: [BindingItem; 32],

@@ -1,8 +1,9 @@
 //! Binary search over a table in order, one unit of work for each item that is looked at. The searches themselves stand with their tables.
+#![tactic(auto)]
 use limits::Stop;
 
 // How an item stands to the one that is sought.
-#[derive(Drop)]
+#[derive(Clone, Copy)]
 pub enum Ordering {
     Less,
     Equal,
@@ -10,7 +11,7 @@ pub enum Ordering {
 }
 
 // The place of an equal item, or the place where one would stand, with the work after the search.
-#[derive(Drop)]
+#[derive(Clone, Copy)]
 pub enum Sought {
     Found(usize, u64),
     Absent(usize, u64),

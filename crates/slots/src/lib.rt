@@ -1,5 +1,6 @@
 //! The values of a rule's slots (`domains` and `produced` of transfer.rs): rows of lent tables. A value that takes the place of another
 //! is complete before the old one is released; whoever lends a table drops its rows.
+#![tactic(auto)]
 ghost use Rattle.std.specs.Prelude.{◌≡◌, ◌-◌};
 ghost use Rattle.limits.specs.Meter.{meter};
 ghost use Rattle.lattice.specs.Value.{value_of};
@@ -14,7 +15,7 @@ use limits::{Charged, Resource, Stop};
 use rules::Binding;
 
 // The counts after a step: work and live entries.
-#[derive(Drop)]
+#[derive(Clone, Copy)]
 pub enum Counted {
     Going(u64, u64),
     Stopped(Stop, u64, u64),

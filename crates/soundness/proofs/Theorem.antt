@@ -248,8 +248,8 @@ fresh_tied l t e c x z = record {
     cells = z.cells;
   };
   trees = record { has = λ i b. absurd (omega arith); inside = λ i u q. absurd (none_some q); is = λ i u q. absurd (none_some q) };
-  rules = record { at = λ r m. absurd (Memᴰ.not_nil m) };
-  seeds = record { at = λ a k q. absurd (Memᴰ.not_nil q.among) };
+  rules = record { at = λ r m. absurd (Memᴰ.not-nil m) };
+  seeds = record { at = λ a k q. absurd (Memᴰ.not-nil q.among) };
 }
 
 fresh_stands : (l : Limits) (s : State) → Lent s.tables → Stands (accepted [] [] [] []) (fresh l s)

@@ -1,5 +1,6 @@
 //! The store's header and its first calls (input.rs): a fresh store, `context`, `work`, `predicate` and `argument`. The header goes in by
 //! value and comes back beside the answer; tables are lent. Every call holds for any header and any contents.
+#![tactic(auto)]
 ghost use Rattle.std.specs.Prelude.{◌≡◌, ◌+◌, ◌≤◌, length};
 ghost use Rattle.limits.specs.Budget.{ran, charge};
 ghost use Rattle.store.specs.Store.{fresh_of, admits, with_budget, with_counts, with_thresholds, with_predicate};
@@ -12,14 +13,14 @@ use limits::{Billed, Budget, Limits, Refusal, Resource, Stop};
 use thresholds::Entered;
 
 // The caller's context, if one is set.
-#[derive(Drop)]
+#[derive(Clone, Copy)]
 pub enum Context {
     None,
     Some(u32),
 }
 
 // Where a store stands. A stopped run keeps its Stop and the context in force there.
-#[derive(Drop)]
+#[derive(Clone, Copy)]
 pub enum Phase {
     Absent,
     Open,
@@ -28,7 +29,7 @@ pub enum Phase {
 }
 
 // How many rows of each table stand.
-#[derive(Drop)]
+#[derive(Clone, Copy)]
 pub struct Counts {
     pub predicates: usize,
     pub positions: usize,
@@ -40,7 +41,7 @@ pub struct Counts {
     pub provenance: usize,
 }
 
-#[derive(Drop)]
+#[derive(Clone, Copy)]
 pub struct Store {
     pub budget: Budget,
     pub counts: Counts,
@@ -49,14 +50,14 @@ pub struct Store {
 }
 
 // A call without an id.
-#[derive(Drop)]
+#[derive(Clone, Copy)]
 pub enum Done {
     Ok(Store),
     Refused(Refusal, Store),
 }
 
 // A call that answers an id.
-#[derive(Drop)]
+#[derive(Clone, Copy)]
 pub enum Answer {
     Id(usize, Store),
     Refused(Refusal, Store),

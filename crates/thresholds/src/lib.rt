@@ -1,4 +1,5 @@
 //! Thresholds (`threshold` and `thresholds` of numeric/input.rs): the numbers at which bounds are widened, in a lent table, sorted.
+#![tactic(auto)]
 ghost use Rattle.std.specs.Prelude.{◌≡◌, ◌+◌, ◌≤◌, ◌<◌, length};
 ghost use Rattle.limits.specs.Budget.{ran};
 ghost use Rattle.integers.specs.Lists.{inserted};
@@ -10,7 +11,7 @@ use limits::{Billed, Budget, Charged, Resource, Stop};
 use search::Sought;
 
 // What is left: the budget, and how many thresholds stand.
-#[derive(Drop)]
+#[derive(Clone, Copy)]
 pub enum Entered {
     Done(Budget, usize),
     Stopped(Stop, Budget, usize),

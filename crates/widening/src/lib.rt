@@ -1,4 +1,5 @@
 //! Widening (`widen` of engine.rs): an interval that grows is moved outward to thresholds, each side by its own count.
+#![tactic(auto)]
 ghost use Rattle.std.specs.Prelude.{◌≡◌, ◌+◌, drop};
 ghost use Rattle.std.specs.Int.Signed.{le_z};
 ghost use Rattle.widening.specs.Widening.{first_of, paid_for, below, above, widen_low, widen_high, with_ends, widen, growth_at, put_growth, no_growth};
@@ -8,28 +9,28 @@ use interval::{Endpoints, Interval};
 use limits::{Charged, Resource, Stop};
 
 // How often the sides of an argument's interval have grown, counted to two.
-#[derive(Drop)]
+#[derive(Clone, Copy)]
 pub struct Growth {
     pub low: u32,
     pub high: u32,
 }
 
 // An interval with the growth and the work after it.
-#[derive(Drop)]
+#[derive(Clone, Copy)]
 pub enum Widened {
     Into(Interval, Growth, u64),
     Stopped(Stop, u64),
 }
 
 // An end of an interval, how often its side has grown, and the work after it.
-#[derive(Drop)]
+#[derive(Clone, Copy)]
 pub enum Sided {
     At(i32, u32, u64),
     Stopped(Stop, u64),
 }
 
 // An end of an interval, and the work after it.
-#[derive(Drop)]
+#[derive(Clone, Copy)]
 pub enum Moved {
     To(i32, u64),
     Stopped(Stop, u64),

@@ -1,0 +1,15 @@
+-- `lists::same_ids` meets its contract.
+use Prim.Native.Nat.{◌-◌}
+use mathlib.Core.Path.{sym, ◌∙◌}
+use lib.ListN.{length, take}
+use borrow.Author.Rules.{rules}
+use Rattle.lists.proofs.CodeLaws.{Comparing, comparing, left_ends, right_ends, compare_stopped, compare_other, compare_more, compare_falls}
+use Rattle.lists.proofs.same_ids.Given as goal
+
+abbrev pub invariant-loop-x : goal.invariant-loop-x
+invariant-loop-x l =
+    Comparing (take l.ln l.left) (take l.rn l.right) l.work l.max_work l.i l.spent
+
+abbrev pub decreases-loop-x : goal.decreases-loop-x
+decreases-loop-x l =
+    length (take l.ln l.left) - l.i

@@ -1,0 +1,16 @@
+-- `range::plus` meets its contract.
+use lib.IntN.{◌+ℤ◌}
+use Rattle.integers.proofs.Bits.{widens, add_fits, worked_fits, worked_is}
+use Rattle.range.proofs.plus.Goals as goal
+
+pub overflow_cast-result : goal.overflow_cast-result
+overflow_cast-result c = widens _ c.ranges.a
+
+pub overflow_cast-result-2 : goal.overflow_cast-result-2
+overflow_cast-result-2 c = widens _ c.ranges.b
+
+pub overflow_add-result : goal.overflow_add-result
+overflow_add-result c = worked_fits ◌+ℤ◌ add_fits c.ranges.a c.ranges.b
+
+pub returns : goal.returns
+returns c = worked_is ◌+ℤ◌ add_fits c.ranges.a c.ranges.b
