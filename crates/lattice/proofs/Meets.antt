@@ -91,7 +91,7 @@ folds : (cs : List ℕ) (n : ℕ) (h : Bound) (l : List ℕ) →
 unfolding fold_m
 folds cs n h [] = by_pure h refl
 folds cs n h (i ∷ l) =
-    bind {P = λ g. g ≡ hull_bound h (bounds.constant_of (constant_at cs i))} (then (holding n (work 1)) (by_pure _ refl)) (λ g e. rw e (folds cs n _ l))
+    bind {P = λ g. g ≡ hull_bound h (bounds.constant_of (constant_at cs i))} (then (holding n (work 1)) (by_pure _ refl)) (λ g e. rw e (folds cs n (hull_bound h (bounds.constant_of (constant_at cs i))) l))
 
 pub reduce_is : (b : Bound) (cs kept : List ℕ) → Ensures (λ r. r ≡ meet_bound b (held_by cs kept)) (reduce b cs kept)
 unfolding reduce

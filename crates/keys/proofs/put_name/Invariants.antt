@@ -1,0 +1,16 @@
+-- `keys::put_name` meets its contract.
+use Prim.Native.Nat.{◌-◌, ◌≤◌}
+use native.Mathlib.Omega.{arith}
+use mathlib.Core.Path.{◌≡◌, refl, ◌∙◌}
+use lib.Seq.{sets}
+use lib.ListN.{length}
+use borrow.Author.Rules.{rules}
+use Rattle.integers.proofs.Stores.{Writing, writing_none, writing_more, writing_all}
+use Rattle.keys.proofs.CodeLaws.{put_beyond}
+use Rattle.keys.proofs.put_name.Given as goal
+
+abbrev pub invariant-loop-j : goal.invariant-loop-j
+invariant-loop-j l = (l.j ≤ length l.text) × (length l.names ≡ length l.initial.names) × Writing (sets l.initial.names l.start l.text) l.names l.start l.text l.j
+
+abbrev pub decreases-loop-j : goal.decreases-loop-j
+decreases-loop-j l = length l.text - l.j

@@ -1,0 +1,7 @@
+-- `lattice::Abstract::refine` meets its contract.
+use borrow.Author.Rules.{rules}
+use Rattle.lattice.proofs.CodeLaws.{refine_is}
+use Rattle.lattice.proofs.Abstract.refine.Goals as goal
+
+pub returns : goal.returns
+returns c = refine_is _ _ _ c.numeric-other.ensures _ c.meet.ensures
