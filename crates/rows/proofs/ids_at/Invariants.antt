@@ -1,0 +1,16 @@
+-- `rows::ids_at` meets its contract.
+use Prim.Native.Nat.{◌+◌, ◌-◌, ◌≤◌}
+use native.Mathlib.Omega.{arith}
+use mathlib.Core.Path.{◌≡◌, ap}
+use lib.ListN.{length, get_or, length-set}
+use borrow.Author.Rules.{rules}
+use Rattle.integers.proofs.Stores.{Filled, filled_none, filled_more}
+use Rattle.rows.specs.Row.{id_of}
+use Rattle.rows.proofs.CodeLaws.{ids_read}
+use Rattle.rows.proofs.ids_at.Given as goal
+
+abbrev pub invariant-loop-j : goal.invariant-loop-j
+invariant-loop-j l = (l.j ≤ 16) × ((length l.ids ≡ 16) × Filled 0 (λ k. id_of (get_or l.cells (l.at + 7 + k) 0)) l.ids l.j)
+
+abbrev pub decreases-loop-j : goal.decreases-loop-j
+decreases-loop-j l = 16 - l.j

@@ -1,0 +1,7 @@
+-- `rows::put_abstract` meets its contract.
+use borrow.Author.Rules.{rules}
+use Rattle.rows.proofs.CodeLaws.{row_put}
+use Rattle.rows.proofs.put_abstract.Goals as goal
+
+pub returns : goal.returns
+returns c = row_put c.args.cells.now c.args.row c.start-at.result c.start-at.ensures c.args.value c.kept_cell.ensures c.list_len-len.ensures c.number.ensures c.put_bound.ensures c.put_cell.ensures c.put_cell-2.ensures c.put_cell-3.ensures c.put_ids.ensures

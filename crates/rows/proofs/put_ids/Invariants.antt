@@ -1,0 +1,19 @@
+-- `rows::put_ids` meets its contract.
+use Prim.Native.Nat.{◌+◌, ◌-◌, ◌≤◌}
+use native.Mathlib.Omega.{arith}
+use mathlib.Core.Path.{◌≡◌, refl, ap, ◌∙◌}
+use lib.ListN.{length, take, length-set}
+use lib.Seq.{sets}
+use borrow.Author.Rules.{rules}
+use Rattle.integers.proofs.Stores.{Writing, writing_none}
+use Rattle.rows.specs.Row.{row, padded}
+use Rattle.rows.proofs.CodeLaws.{id_put, ids_put}
+use Rattle.rows.proofs.put_ids.Given as goal
+
+abbrev pub invariant-loop-j : goal.invariant-loop-j
+invariant-loop-j l =
+    (l.j ≤ row - 7) × ((length l.cells ≡ length l.initial.cells) ×
+    Writing (sets l.initial.cells (l.at + 7) (padded (row - 7) (take l.len l.ids))) l.cells (l.at + 7) (padded (row - 7) (take l.len l.ids)) l.j)
+
+abbrev pub decreases-loop-j : goal.decreases-loop-j
+decreases-loop-j l = row - 7 - l.j
