@@ -1,0 +1,9 @@
+-- `rules::context_at` meets its contract.
+use borrow.Author.Rules.{rules}
+use Rattle.rules.proofs.CodeLaws.{context_read_lem}
+use Rattle.rules.proofs.context_at.Goals as goal
+
+pub returns : goal.returns
+returns c =
+    let a = c.args in
+    context_read_lem a.cells.now a.id c.start-at.result c.start-at.ensures c.cell_at.ensures c.cell_at-2.ensures c.context_of.ensures

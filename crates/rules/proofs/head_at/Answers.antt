@@ -1,0 +1,9 @@
+-- `rules::head_at` meets its contract.
+use borrow.Author.Rules.{rules}
+use Rattle.rules.proofs.CodeLaws.{head_read}
+use Rattle.rules.proofs.head_at.Goals as goal
+
+pub returns : goal.returns
+returns c =
+    let a = c.args in
+    head_read a.cells.now a.id c.start.result c.start.ensures a.j c.twos.result c.twos.ensures c.cell_at.ensures c.cell_at-2.ensures

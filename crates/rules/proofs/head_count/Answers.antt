@@ -1,0 +1,9 @@
+-- `rules::head_count` meets its contract.
+use borrow.Author.Rules.{rules}
+use Rattle.rules.proofs.CodeLaws.{head_count_read}
+use Rattle.rules.proofs.head_count.Goals as goal
+
+pub returns : goal.returns
+returns c =
+    let a = c.args in
+    head_count_read a.cells.now a.id c.start-at.result c.start-at.ensures c.cell_at.ensures c.at_most.ensures
