@@ -8,14 +8,14 @@ use Rattle.refinements.proofs.restrict.Goals as goal
 pub returns-then-k-count : goal.returns-then-k-count
 returns-then-k-count c =
     let a = c.args in
-    restrict_found a.constants.now (refinement_at a.refinements.now) a.id (value_of a.value) a.count a.work a.max-work a.entries a.max-entries c.position.ensures c.in-At.is c.if-k-count.true c.restriction_at.ensures c.narrow.ensures
+    restrict_found a.constants.now (refinement_at a.refinements.now) a.id (value_of a.value) a.count a.work a.max_work a.entries a.max_entries c.position.ensures c.in-At.is c.if-k-count.true c.restriction_at.ensures c.narrow.ensures
 
 pub returns-in-Stopped : goal.returns-in-Stopped
 returns-in-Stopped c =
     let a = c.args in
-    restrict_stops a.constants.now (refinement_at a.refinements.now) a.id (value_of a.value) a.count a.work a.max-work a.entries a.max-entries c.position.ensures c.in-Stopped.is c.entries_of.ensures c.release.ensures
+    restrict_stops a.constants.now (refinement_at a.refinements.now) a.id (value_of a.value) a.count a.work a.max_work a.entries a.max_entries c.position.ensures c.in-Stopped.is c.entries_of.ensures c.release.ensures
 
 pub returns-else-k-count : goal.returns-else-k-count
 returns-else-k-count c =
     let a = c.args in
-    restrict_ends a.constants.now (refinement_at a.refinements.now) a.id (value_of a.value) a.count a.work a.max-work a.entries a.max-entries c.position.ensures c.in-At.is c.if-k-count.false
+    restrict_ends a.constants.now (refinement_at a.refinements.now) a.id (value_of a.value) a.count a.work a.max_work a.entries a.max_entries c.position.ensures c.in-At.is c.if-k-count.false
