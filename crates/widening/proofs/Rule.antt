@@ -46,6 +46,7 @@ Outward s [] = Unit {0}
 Outward s (t ∷ l) = ((u : ℤ) → Memᴰ u l → AtOrBeyond s t u) × Outward s l
 
 place : {u : ℤ} (l : List ℤ) → Memᴰ u l → (i : ℕ) × (i < length l) × (get_or l i (pos 0) ≡ u)
+place {u = u} [] x' = elim x' [ ]
 place (t ∷ l) (Memᴰ.head e) = (0, omega arith, sym e)
 place (t ∷ l) (Memᴰ.tail m) = let k = place l m in (suc k.0, omega (arith, k.1), k.2)
 
@@ -61,6 +62,7 @@ from_bottom (t ∷ l) r = (
 )
 
 in_reverse : {u : ℤ} (l : List ℤ) → Memᴰ u l → Memᴰ u (reverse l)
+in_reverse {u = u} [] x' = elim x' [ ]
 in_reverse (t ∷ l) (Memᴰ.head e) = rw (reverse-cons t l) (Memᴰ.append_right (reverse l) (Memᴰ.head e))
 in_reverse (t ∷ l) (Memᴰ.tail m) = rw (reverse-cons t l) (Memᴰ.append_left (t ∷ []) (in_reverse l m))
 
@@ -68,7 +70,7 @@ reverse_in : {u : ℤ} (l : List ℤ) → Memᴰ u (reverse l) → Memᴰ u l
 reverse_in {u} l m = subst (λ (r : List ℤ). Memᴰ u r) (reverse-reverse l) (in_reverse (reverse l) m)
 
 one_more : (s : Which) (l : List ℤ) (t : ℤ) → Outward s l → ((u : ℤ) → Memᴰ u l → AtOrBeyond s u t) → Outward s (l ++ (t ∷ []))
-one_more s [] t o h = (λ u m. absurd (Memᴰ.not_nil m), tt)
+one_more s [] t o h = (λ u m. absurd (Memᴰ.not-nil m), tt)
 one_more s (a ∷ l) t o h = (
   λ u m.
       ⊎_elim (λ k. o.0 u k) (λ k. subst (λ (v : ℤ). AtOrBeyond s a v) (sym (Memᴰ.eq_of_singleton k)) (h a (Memᴰ.head refl)))
@@ -122,7 +124,7 @@ module _ (s : Which) {beyond : ℤ → Bool} {end : ℤ} (hits : (t : ℤ) → b
           first = λ u m b. ⊎_elim (λ q. not_first q b) (λ k. n.first u k b) (Memᴰ.cases_cons m);
         }
         go (rule.none n q) = rule.none (λ u m b. ⊎_elim (λ q. not_first q b) (λ k. n u k b) (Memᴰ.cases_cons m)) q
-    first_moves [] o missed = rule.none (λ u m. absurd (Memᴰ.not_nil m)) refl
+    first_moves [] o missed = rule.none (λ u m. absurd (Memᴰ.not-nil m)) refl
 
 first_number : {beyond : ℤ → Bool} {end z : ℤ} (l : List ℤ) → All Number l → Number end → First beyond end l z → Number z
 first_number (t ∷ l) h n (here e) = h.0

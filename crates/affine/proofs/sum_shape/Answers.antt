@@ -1,0 +1,7 @@
+-- `affine::sum_shape` meets its contract.
+use borrow.Author.Rules.{rules}
+use Rattle.affine.proofs.CodeLaws.{sum_slot}
+use Rattle.affine.proofs.sum_shape.Goals as goal
+
+pub returns-in-Slot : goal.returns-in-Slot
+returns-in-Slot c = sum_slot c.in-Slot.is _ c.sum.ensures

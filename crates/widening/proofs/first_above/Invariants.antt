@@ -1,0 +1,13 @@
+-- `widening::first_above` meets its contract.
+use Prim.Native.Nat.{◌-◌, ◌≤◌}
+use lib.Signed.{le_z}
+use lib.ListN.{length}
+use Rattle.widening.specs.Widening.{first_of}
+use Rattle.widening.proofs.Place.{Ahead}
+use Rattle.widening.proofs.first_above.Given as goal
+
+abbrev pub invariant-loop-i : goal.invariant-loop-i
+invariant-loop-i l = (l.i ≤ length l.thresholds) × Ahead (le_z l.high) l.thresholds (first_of (le_z l.high) l.thresholds) l.i
+
+abbrev pub decreases-loop-i : goal.decreases-loop-i
+decreases-loop-i l = length l.thresholds - l.i
