@@ -1,6 +1,7 @@
 //! What a comparison says of its operands, and what that says of a slot (the arithmetic of `refine_comparison` and `refine_operand` of
 //! transfer.rs): where an operand is a slot and a literal, the slot lies in an interval too.
 #![tactic(auto)]
+
 ghost use Rattle.std.specs.Prelude.{◌≡◌};
 ghost use Rattle.interval.specs.Interval.{endpoints_of};
 ghost use Rattle.operators.specs.Answers.{read};

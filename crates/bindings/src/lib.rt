@@ -1,5 +1,6 @@
 //! The values of a rule's slots before guards (`rule` of transfer.rs, as far as the bindings): three passes over the bindings.
 #![tactic(auto)]
+
 ghost use Rattle.std.specs.Prelude.{◌≡◌};
 ghost use Rattle.limits.specs.Meter.{meter};
 ghost use Rattle.lattice.specs.Value.{value_of};

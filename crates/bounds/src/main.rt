@@ -1,6 +1,7 @@
 //! Document 01's example: argument 0 begins with 0 and gets slot + 1 where slot is in argument 0 and slot < 10. Writes the report of its
 //! run, or the line of the first refusal.
 #![tactic(auto)]
+
 use libc::STDOUT_FILENO;
 use limits::{Limits, Refusal};
 use nodes::{BinaryOp, Expression};

@@ -1,5 +1,6 @@
 //! Cells of lent tables: a cell that may lie beyond its table, and numbers of 32 signed bits in unsigned cells.
 #![tactic(auto)]
+
 ghost use Rattle.std.specs.Prelude.{◌≡◌, get_or, set};
 ghost use Rattle.cells.specs.Cells.{to_cell, of_cell};
 

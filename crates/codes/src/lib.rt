@@ -1,5 +1,6 @@
 //! The codes of operators, relations, aggregate functions and reasons in a job. A code that a table lacks stands for its last entry.
 #![tactic(auto)]
+
 use lattice::Widening;
 use nodes::{BinaryOp, UnaryOp};
 use rules::{AggregateFunction, Relation};

@@ -1,6 +1,7 @@
 //! `constant` (input.rs): a key is classified, its thresholds are entered, and it is retained once. The two entry points share one function
 //! over a mark, a number and a text, since an enum cannot hold a slice.
 #![tactic(auto)]
+
 ghost use Rattle.std.specs.Prelude.{◌≡◌, ◌+◌, ◌≤◌, leb, length};
 ghost use Rattle.limits.specs.declared.Resource.TheVariants.{Work};
 ghost use Rattle.limits.specs.Records.{with_count, with_statistics};

@@ -1,6 +1,7 @@
 //! The run (engine.rs): it begins with the seeds, passes until one changes nothing, and ends with a last round. Its own tables are arrays
 //! that it lends to its helpers; the result tables are written once, after the last thing that can be refused.
 #![tactic(auto)]
+
 ghost use Rattle.std.specs.Prelude.{◌≡◌, ◌+◌, ◌≤◌, length};
 ghost use Rattle.std.proofs.lemmas.List.Edits.{sets};
 ghost use Rattle.rows.specs.Row.{padded};

@@ -2,6 +2,7 @@
 //! are worked out by recursion over their table: the node's id falls. Every value that is made on the way is released by name.
 //! Inside an expression values are handed on as operands: no operator asks for more than a bound and the length of a list.
 #![tactic(auto)]
+
 ghost use Rattle.std.specs.Prelude.{◌≡◌};
 ghost use Rattle.limits.specs.Metered.{after};
 ghost use Rattle.limits.specs.Meter.{meter};

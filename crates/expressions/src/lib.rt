@@ -1,5 +1,6 @@
 //! `expression` (input.rs): an acyclic expression, whose children have smaller ids. Equal ones share an id, Unknowns never do.
 #![tactic(auto)]
+
 ghost use Rattle.std.specs.Prelude.{◌≡◌, ◌+◌, ◌*◌, ◌≤◌, ◌<◌, max, length};
 ghost use Rattle.nodes.specs.Node.{row};
 ghost use Rattle.search.specs.Answers.{Seeks};

@@ -1,6 +1,7 @@
 //! The values of a rule's slots after guards (`rule` of transfer.rs from the copies on, with `refine_comparison` and `refine_operand`). What a
 //! guard finds of its operands is recorded, and narrows slots where an operand is a slot and a literal.
 #![tactic(auto)]
+
 ghost use Rattle.std.specs.Prelude.{◌≡◌};
 ghost use Rattle.limits.specs.Meter.{meter};
 ghost use Rattle.rules.specs.Read.{slots_at, guards_at};

@@ -1,6 +1,7 @@
 //! Every entry point behind a few C functions, for the test that calls them with made-up headers and tables (robust/). Whatever the words
 //! of a header say is a header. Each function answers the number of the refusal, 0 for none.
 #![tactic(auto)]
+
 mod header;
 mod parts;
 

@@ -1,6 +1,7 @@
 //! Intervals and bounds (lattice.rs; `Integrality`, `Interval` and `Bound` of numeric.rs). Hull and meet are those of the interval
 //! lattice of Cousot and Cousot (1977), and `Unbounded` is its line of all integers.
 #![tactic(auto)]
+
 ghost use Rattle.std.specs.Prelude.{◌≡◌};
 ghost use Rattle.integers.specs.Order.{least32, greatest32, min_z, max_z};
 ghost use Rattle.interval.specs.Interval.{ascending_of, hull_of, meet_of, checked_of, endpoints_of, contains_of, same_of};

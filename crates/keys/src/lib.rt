@@ -1,5 +1,6 @@
 //! Keys: a number or a name, the reader's order, the lent tables that hold the keys of constants, and the search in the key order.
 #![tactic(auto)]
+
 ghost use Rattle.std.specs.Prelude.{◌≡◌, min, set};
 ghost use Rattle.integers.specs.Lists.{inserted};
 ghost use Rattle.keys.specs.Key.{compare_bytes, compare_keys, name_at, kind_at, payload_at, key_at, put_cells, put_name, key_of, seek_key};

@@ -2,6 +2,7 @@
 //! Values go in and come back by value. Work and live entries are handed through as numbers, beside their limits; whoever makes
 //! a list releases its entries on every way out.
 #![tactic(auto)]
+
 ghost use Rattle.std.specs.Prelude.{◌≡◌, [], take};
 ghost use Rattle.std.proofs.Math.Option.{some, none};
 ghost use Rattle.limits.specs.Meter.{meter};

@@ -1,6 +1,7 @@
 //! The thin layer that changes lent counts in place (01, "Form by location"). Each function loads the counts, has a by-value
 //! function make the new ones, and stores them.
 #![tactic(auto)]
+
 ghost use Rattle.std.specs.Prelude.{◌≡◌};
 ghost use Rattle.limits.specs.Budget.{charge, released, widened_once};
 ghost use Rattle.lent.specs.Lent.{budget_of, settled, After};

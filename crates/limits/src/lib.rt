@@ -1,6 +1,7 @@
 //! Limits and counts (limits.rs, and `Budget` of numeric.rs): what a call may charge, what it has charged, and what it is
 //! turned down with. Counts go in by value and come back beside the outcome; no count ever wraps.
 #![tactic(auto)]
+
 ghost use Rattle.std.specs.Prelude.{◌≡◌, ◌-◌};
 ghost use Rattle.limits.specs.Charge.{charge_of, units_of};
 ghost use Rattle.limits.specs.Records.{count_of, limit_of, with_count, with_statistics, fresh};

@@ -1,6 +1,7 @@
 //! Lists of at most 16 constant ids, strictly increasing: an array and a length. Their union, whether one has an id, and the
 //! charge of their entries (`push`, `permits` and the loops of `join` and `same` of lattice.rs).
 #![tactic(auto)]
+
 ghost use Rattle.std.specs.Prelude.{◌≡◌, [], min, length, take, drop};
 ghost use Rattle.limits.specs.Meter.{meter};
 ghost use Rattle.lists.specs.Lists.{head_of, next_of, union, take_one, collect, permits_in, same_ids};

@@ -1,6 +1,7 @@
 //! Expressions (numeric.rs) and their rows in a lent table: four cells that tell the expression, and a fifth for its nesting. Cells beyond
 //! the table read as 0 and are not written; any contents read as an expression whose children have smaller ids.
 #![tactic(auto)]
+
 ghost use Rattle.std.specs.Prelude.{◌≡◌, ◌*◌, min, get_or, set};
 ghost use Rattle.nodes.specs.Node.{unary_number, binary_number, mark_of, node, node_of, same_node, widening_of, unread, unary_of, binary_of, expression_of, row, node_at, nesting_at, expression_at, put_node};
 

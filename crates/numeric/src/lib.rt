@@ -1,6 +1,7 @@
 //! Readings of a store whose run has ended (numeric.rs): arguments, their contexts, the slots of rules, constants, and how the run ended.
 //! A reading changes nothing, and holds for any header and any contents. The statistics are a field of the header.
 #![tactic(auto)]
+
 ghost use Rattle.std.specs.Prelude.{◌≡◌, ◌&&◌, ◌*◌, ◌<◌, ◌≤◌, min, eqb, length, get_or};
 ghost use Rattle.rules.specs.Rule.{row};
 ghost use Rattle.results.specs.Result.{place};

@@ -1,6 +1,7 @@
 //! Operators on intervals (`range`, `interval` and `covered` of transfer.rs, with `literal`): what an expression's node makes of the intervals of its children,
 //! and the numbers that are written in expressions.
 #![tactic(auto)]
+
 ghost use Rattle.std.specs.Prelude.{◌≡◌};
 ghost use Rattle.lattice.specs.Constants.{constant_at};
 ghost use Rattle.range.specs.Range.{checked_of};

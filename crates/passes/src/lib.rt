@@ -1,6 +1,7 @@
 //! One pass (the loop of `run` in engine.rs): a round, then each old value joined with its new one and widened; and passes until one
 //! changes nothing. Where a pass is stopped, the current values stay, and nothing else that it made stays live.
 #![tactic(auto)]
+
 ghost use Rattle.std.specs.Prelude.{◌≡◌, false};
 ghost use Rattle.limits.specs.Meter.{meter};
 ghost use Rattle.lattice.specs.Value.{value_of};

@@ -1,6 +1,7 @@
 //! `rule` (input.rs): a whole rule is checked, in the Rust's order, and becomes a row. What it charged before a refusal stays charged, and
 //! what its heads recorded stays recorded.
 #![tactic(auto)]
+
 ghost use Rattle.std.specs.Prelude.{◌≡◌, ◌+◌, ◌≤◌, ◌<◌, take, true};
 ghost use Rattle.store.specs.Store.{with_rules};
 ghost use Rattle.store.specs.Calls.{charged};

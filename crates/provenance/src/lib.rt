@@ -1,5 +1,6 @@
 //! Provenance (input.rs): the contexts under which an argument is seeded or produced, in a lent table, in the order recorded.
 #![tactic(auto)]
+
 ghost use Rattle.std.specs.Prelude.{◌≡◌, ◌+◌, ◌*◌, ◌≤◌, [], ◌∷◌};
 ghost use Rattle.std.proofs.lemmas.List.Edits.{sets};
 ghost use Rattle.store.specs.Store.{with_provenance};

@@ -1,6 +1,7 @@
 //! Conservative ranges for checked arithmetic (range.rs): sums, differences, products and negation, worked in 64 bits.
 //! An answer encloses every result over its operands, with both ends in 32 bits; otherwise the range declines.
 #![tactic(auto)]
+
 ghost use Rattle.std.specs.Prelude.{◌≡◌, ◌+ℤ◌, ◌-ℤ◌, ◌*ℤ◌};
 ghost use Rattle.integers.specs.Order.{min_z, max_z};
 ghost use Rattle.range.specs.Range.{checked_of, point_of, bounds_of, sum_of, difference_of, corners_of, product_of, negation_of};

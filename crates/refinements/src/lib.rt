@@ -1,6 +1,7 @@
 //! What guards have found of expressions (`refinements` of transfer.rs): rows of a lent table, each an expression's id and an interval.
 //! Cells beyond the table read as 0 and are not written; any contents read as refinements.
 #![tactic(auto)]
+
 ghost use Rattle.std.specs.Prelude.{◌≡◌, min, ◌*◌};
 ghost use Rattle.limits.specs.Meter.{meter};
 ghost use Rattle.lattice.specs.Value.{value_of};

@@ -1,5 +1,6 @@
 //! Answers the jobs on standard input, line by line. All tables are arrays of `main`, lent down to the calls.
 #![tactic(auto)]
+
 mod calls;
 mod lines;
 mod parts;

@@ -1,6 +1,7 @@
 //! The report: each line of 01 written into a lent buffer. A line holds for any header and any contents; where it is refused, the buffer
 //! stays as it was.
 #![tactic(auto)]
+
 ghost use Rattle.std.specs.Prelude.{◌≡◌, ◌+◌, ◌≤◌, cond, length};
 ghost use Rattle.limits.specs.Refusal.{told};
 ghost use Rattle.lattice.specs.Value.{value_of};

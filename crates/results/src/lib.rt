@@ -1,6 +1,7 @@
 //! The end of a run (engine.rs): the last round, the bounds of the rules' slots before and after guards, and the closing charge. The
 //! bounds go into a table that the caller keeps until the last charge is accepted.
 #![tactic(auto)]
+
 ghost use Rattle.std.specs.Prelude.{◌≡◌};
 ghost use Rattle.limits.specs.Meter.{meter};
 ghost use Rattle.slots.specs.Slots.{slots};

@@ -1,6 +1,7 @@
 //! One round (`round` and `image` of engine.rs): all rules applied to given values, their heads joined into a copy of the seeds. A rule's
 //! slots stand in tables of its own application and are dropped with it; where a round is stopped, nothing of its result stays live.
 #![tactic(auto)]
+
 ghost use Rattle.std.specs.Prelude.{◌≡◌};
 ghost use Rattle.limits.specs.Meter.{meter};
 ghost use Rattle.lattice.specs.Value.{value_of};

@@ -1,6 +1,7 @@
 //! Abstract values in lent tables: a row of ROW cells for each. Cells beyond a table read as 0 and are not written, so that
 //! any table and any row number will do; any contents read as a value.
 #![tactic(auto)]
+
 ghost use Rattle.std.specs.Prelude.{◌≡◌, min, ◌+◌, ◌-◌, ◌*◌, ◌≤◌, length, get_or, take, drop};
 ghost use Rattle.std.proofs.lemmas.List.Edits.{sets};
 ghost use Rattle.cells.specs.Cells.{of_cell};

@@ -1,5 +1,6 @@
 //! Rules (numeric.rs) and their rows in a lent table. Cells beyond the table read as 0; any contents read as a rule.
 #![tactic(auto)]
+
 ghost use Rattle.std.specs.Prelude.{◌≡◌, [], ◌∷◌, map, min, ◌+◌, ◌*◌, ◌≤◌, ◌<◌, set, take};
 ghost use Rattle.std.proofs.lemmas.List.Edits.{sets};
 ghost use Rattle.rules.specs.Rule.{function_number, relation_number, binding_cells, guard_cells, head_cells, mark_of, number_of, fixed_cells, flat, cell, row, put_rule};

@@ -1,5 +1,6 @@
 //! Binary search over a table in order, one unit of work for each item that is looked at. The searches themselves stand with their tables.
 #![tactic(auto)]
+
 use limits::Stop;
 
 // How an item stands to the one that is sought.

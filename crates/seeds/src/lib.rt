@@ -1,6 +1,7 @@
 //! `seed_value` and `seed_interval` (input.rs): a value is joined into the seed of an argument. Whoever makes a list releases its entries
 //! on every way out, and an argument that loses its list is counted as widened.
 #![tactic(auto)]
+
 ghost use Rattle.std.specs.Prelude.{◌≡◌, ◌+◌, ◌≤◌, length};
 ghost use Rattle.lattice.specs.Value.{value_of};
 ghost use Rattle.seeds.specs.Seed.{loses, dropped, joined, seed, constant_value, seed_constant, sizes, spacious, tables, interval_tables, seed_value_call, seed_interval_call};

@@ -1,6 +1,7 @@
 //! The values of a rule's slots (`domains` and `produced` of transfer.rs): rows of lent tables. A value that takes the place of another
 //! is complete before the old one is released; whoever lends a table drops its rows.
 #![tactic(auto)]
+
 ghost use Rattle.std.specs.Prelude.{◌≡◌, ◌-◌};
 ghost use Rattle.limits.specs.Meter.{meter};
 ghost use Rattle.lattice.specs.Value.{value_of};

@@ -1,6 +1,7 @@
 //! The store's header and its first calls (input.rs): a fresh store, `context`, `work`, `predicate` and `argument`. The header goes in by
 //! value and comes back beside the answer; tables are lent. Every call holds for any header and any contents.
 #![tactic(auto)]
+
 ghost use Rattle.std.specs.Prelude.{◌≡◌, ◌+◌, ◌≤◌, length};
 ghost use Rattle.limits.specs.Budget.{ran, charge};
 ghost use Rattle.store.specs.Store.{fresh_of, admits, with_budget, with_counts, with_thresholds, with_predicate};

@@ -1,6 +1,7 @@
 //! Words of the report in bytes of ASCII, written into a line from a place on. A word is the line's own only where it fits: each function
 //! asks for the room of its longest text, and answers the place behind what it wrote, which lies within that room.
 #![tactic(auto)]
+
 ghost use Rattle.std.specs.Prelude.{◌+◌, ◌*◌, ◌/◌, ◌%◌, ◌≤◌, ◌^◌, ◌≡◌, [], ◌∷◌, length, take, drop};
 ghost use Rattle.lattice.specs.Value.{value_of};
 ghost use Rattle.text.specs.Text.{decimal, integer, letter, ends, bound_words, others, list_word, spaced_words};

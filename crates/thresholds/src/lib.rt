@@ -1,5 +1,6 @@
 //! Thresholds (`threshold` and `thresholds` of numeric/input.rs): the numbers at which bounds are widened, in a lent table, sorted.
 #![tactic(auto)]
+
 ghost use Rattle.std.specs.Prelude.{◌≡◌, ◌+◌, ◌≤◌, ◌<◌, length};
 ghost use Rattle.limits.specs.Budget.{ran};
 ghost use Rattle.integers.specs.Lists.{inserted};

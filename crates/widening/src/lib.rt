@@ -1,5 +1,6 @@
 //! Widening (`widen` of engine.rs): an interval that grows is moved outward to thresholds, each side by its own count.
 #![tactic(auto)]
+
 ghost use Rattle.std.specs.Prelude.{◌≡◌, ◌+◌, drop};
 ghost use Rattle.std.specs.Int.Signed.{le_z};
 ghost use Rattle.widening.specs.Widening.{first_of, paid_for, below, above, widen_low, widen_high, with_ends, widen, growth_at, put_growth, no_growth};

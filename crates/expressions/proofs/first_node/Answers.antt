@@ -1,9 +1,9 @@
 -- `expressions::first_node` meets its contract.
 use Prim.Native.Nat.{◌-◌}
-use mathlib.Core.Logic.{⊎_elim}
 use borrow.Author.Rules.{rules}
 use Rattle.expressions.proofs.CodeLaws.{Ahead, ahead_begins, ahead_none, ahead_left, ahead_here, ahead_past}
 use Rattle.expressions.proofs.first_node.Goals as goal
+use Rattle.expressions.proofs.first_node.Goals.{then-nodes-i+else-same, else-nodes-i}
 
 pub loop-i-init : goal.loop-i-init
 loop-i-init c = ahead_begins _ _ _
@@ -14,7 +14,10 @@ returns-then-same c =
 
 pub loop-i-preserved : goal.loop-i-preserved
 loop-i-preserved c =
-    ⊎_elim (λ w. ahead_past _ _ _ c.loop-i.invariant c.loop-i-test.true w.1.ensures w.2.ensures w.3.left) (λ w. ahead_left _ _ _ c.loop-i.invariant c.loop-i-test.true w.left) c.if-nodes-i.branch
+    elim c.if-nodes-i.branch [
+      | then-nodes-i+else-same w ↦ ahead_past _ _ _ c.loop-i.invariant c.loop-i-test.true w.node_at-old.ensures w.same.ensures w.if-same.false
+      | else-nodes-i w ↦ ahead_left _ _ _ c.loop-i.invariant c.loop-i-test.true w.if-nodes-i.false
+    ]
 
 pub returns : goal.returns
 returns c = ahead_none _ _ _ c.loop-i.invariant c.loop-i-test.false

@@ -1,6 +1,5 @@
 -- `expressions::first_node` meets its contract.
 use Prim.Native.Nat.{◌-◌}
-use mathlib.Core.Logic.{⊎_elim}
 use borrow.Author.Rules.{rules}
 use Rattle.expressions.proofs.CodeLaws.{Ahead, ahead_begins, ahead_none, ahead_left, ahead_here, ahead_past}
 use Rattle.expressions.proofs.first_node.Given as goal

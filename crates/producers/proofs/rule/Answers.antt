@@ -22,16 +22,16 @@ pub returns-then-not-room : goal.returns-then-not-room
 returns-then-not-room c = call_full c.args.nodes.now c.args.rule c.args.store c.args.rules.now c.args.records.now c.sized.ensures c.if-not-sized.false c.is_shapely.ensures c.if-not-is_shapely.false c.admits.ensures c.if-not-admits.false c.room.ensures c.if-not-room.true
 
 pub charge_rule-requires : goal.charge_rule-requires
-charge_rule-requires c = sym c.is_shapely.ensures ∙ not-false _ c.if-not-is_shapely.false
+charge_rule-requires c = sym c.is_shapely.ensures ∙ c.if-not-is_shapely.false
 
 pub check_rule-requires : goal.check_rule-requires
-check_rule-requires c = let g = sym (ap done c.in-Ok.is) ∙ c.charge_rule.ensures in let y = roomy c.args.store (sym c.room.ensures ∙ not-false _ c.if-not-room.false) in rw (charged_counts (cost c.args.rule) c.args.store g, charged_context (cost c.args.rule) c.args.store g) (sym c.is_shapely.ensures ∙ not-false _ c.if-not-is_shapely.false, y.1)
+check_rule-requires c = let g = sym (ap done c.in-Ok.is) ∙ c.charge_rule.ensures in let y = roomy c.args.store (sym c.room.ensures ∙ c.if-not-room.false) in rw (charged_counts (cost c.args.rule) c.args.store g, charged_context (cost c.args.rule) c.args.store g) (sym c.is_shapely.ensures ∙ c.if-not-is_shapely.false, y.1)
 
 pub put_rule-requires : goal.put_rule-requires
-put_rule-requires c = let l = lengthy c.args.rule (sym c.is_shapely.ensures ∙ not-false _ c.if-not-is_shapely.false) in let y = roomy c.args.store (sym c.room.ensures ∙ not-false _ c.if-not-room.false) in (y.0, (l.bindings, (l.guards, l.heads)))
+put_rule-requires c = let l = lengthy c.args.rule (sym c.is_shapely.ensures ∙ c.if-not-is_shapely.false) in let y = roomy c.args.store (sym c.room.ensures ∙ c.if-not-room.false) in (y.0, (l.bindings, (l.guards, l.heads)))
 
 pub with_rule-requires : goal.with_rule-requires
-with_rule-requires c = let g = sym (ap done c.in-Ok.is) ∙ c.charge_rule.ensures in let y = roomy c.args.store (sym c.room.ensures ∙ not-false _ c.if-not-room.false) in let k = rule_kept c.args.nodes.now c.args.rule c.in-Ok.paid c.args.records.now c.check_rule.ensures c.in-Ok-check_rule.is in rw (k.0, charged_counts (cost c.args.rule) c.args.store g) y.0
+with_rule-requires c = let g = sym (ap done c.in-Ok.is) ∙ c.charge_rule.ensures in let y = roomy c.args.store (sym c.room.ensures ∙ c.if-not-room.false) in let k = rule_kept c.args.nodes.now c.args.rule c.in-Ok.paid c.args.records.now c.check_rule.ensures c.in-Ok-check_rule.is in rw (k.0, charged_counts (cost c.args.rule) c.args.store g) y.0
 
 pub returns-in-Refused : goal.returns-in-Refused
 returns-in-Refused c = call_unpaid c.args.nodes.now c.args.rule c.args.store c.args.rules.now c.args.records.now c.sized.ensures c.if-not-sized.false c.is_shapely.ensures c.if-not-is_shapely.false c.admits.ensures c.if-not-admits.false c.room.ensures c.if-not-room.false c.charge_rule.ensures c.in-Refused.is
