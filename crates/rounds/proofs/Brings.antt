@@ -55,6 +55,7 @@ module _ {size : List ℕ → ℕ} where
     -- what one of them brings about, and all keep, holds at the end
     pub brings_hit : (F G : List ℕ → Type 0) (a : A) (l : List A) → Memᴰ a l → All (λ b. Brings size F F (f b)) l → All (λ b. Brings size G G (f b)) l → Brings size F G (f a) → Brings size F G (each f l)
     unfolding each
+    brings_hit F G a [] x4 h g hit = elim x4 [ ]
     brings_hit F G a (b ∷ l) (Memᴰ.head e) h g hit = brings_then (brings_step (subst (λ (x : A). Brings size F G (f x)) e hit)) (brings_each G l g.1)
     brings_hit F G a (b ∷ l) (Memᴰ.tail m) h g hit = brings_then (brings_step h.0) (brings_hit F G a l m h.1 g.1 hit)
 

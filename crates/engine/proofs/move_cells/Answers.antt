@@ -1,0 +1,24 @@
+-- `engine::move_cells` meets its contract.
+use Prim.Native.Nat.{◌-◌, ◌≤◌}
+use native.Mathlib.Omega.{arith}
+use mathlib.Core.Path.{◌≡◌, refl, ◌∙◌}
+use borrow.Author.Rules.{rules}
+use lib.ListN.{length}
+use lib.Seq.{sets}
+use Rattle.integers.proofs.Stores.{Writing, writing_none}
+use Rattle.rows.specs.Row.{padded}
+use Rattle.engine.proofs.RunLaws.{cell_moved, cells_moved}
+use Rattle.engine.proofs.move_cells.Goals as goal
+
+pub loop-i-init : goal.loop-i-init
+loop-i-init c = (omega arith, refl, writing_none _ _ _)
+
+pub loop-i-smaller : goal.loop-i-smaller
+loop-i-smaller c = omega arith
+
+pub loop-i-preserved : goal.loop-i-preserved
+loop-i-preserved c =
+    (omega arith, c.to-1.given ∙ c.loop-i.invariant.1, cell_moved _ c.loop-i-test.true c.loop-i.invariant.2 c.cell_at.ensures c.put_cell.ensures)
+
+pub returns : goal.returns
+returns c = cells_moved _ c.loop-i.invariant.2 (omega arith)

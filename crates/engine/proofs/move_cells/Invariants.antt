@@ -1,0 +1,19 @@
+-- `engine::move_cells` meets its contract.
+use Prim.Native.Nat.{◌-◌, ◌≤◌}
+use native.Mathlib.Omega.{arith}
+use mathlib.Core.Path.{◌≡◌, refl, ◌∙◌}
+use borrow.Author.Rules.{rules}
+use lib.ListN.{length}
+use lib.Seq.{sets}
+use Rattle.integers.proofs.Stores.{Writing, writing_none}
+use Rattle.rows.specs.Row.{padded}
+use Rattle.engine.proofs.RunLaws.{cell_moved, cells_moved}
+use Rattle.engine.proofs.move_cells.Given as goal
+
+abbrev pub invariant-loop-i : goal.invariant-loop-i
+invariant-loop-i l =
+    (l.i ≤ l.count) × (length l.to ≡ length l.initial.to) × Writing (sets l.initial.to 0 (padded l.count l.from)) l.to 0 (padded l.count l.from) l.i
+
+abbrev pub decreases-loop-i : goal.decreases-loop-i
+decreases-loop-i l =
+    l.count - l.i

@@ -1,0 +1,6 @@
+-- `evaluation::constant_value` meets its contract.
+use borrow.Author.Rules.{rules}
+use Rattle.evaluation.proofs.constant_value.Goals as goal
+
+pub returns : goal.returns
+returns c = rw c.constant_at-key.ensures at c.constant.ensures

@@ -1,0 +1,17 @@
+-- `rounds::move_rows` meets its contract.
+use Prim.Native.Nat.{◌-◌, ◌≤◌}
+use native.Mathlib.Omega.{arith}
+use mathlib.Core.Path.{◌≡◌, refl, ◌∙◌}
+use borrow.Author.Rules.{rules}
+use lib.ListN.{length}
+use Rattle.rounds.specs.Round.{moved}
+use Rattle.rounds.proofs.CodeLaws.{moved_none, moved_more, moved_all}
+use Rattle.rounds.proofs.move_rows.Given as goal
+
+abbrev pub invariant-loop-i : goal.invariant-loop-i
+invariant-loop-i l =
+    (length l.to ≡ length l.initial.to) × ((l.i ≤ l.count) × (l.to ≡ moved l.from l.i l.initial.to))
+
+abbrev pub decreases-loop-i : goal.decreases-loop-i
+decreases-loop-i l =
+    l.count - l.i

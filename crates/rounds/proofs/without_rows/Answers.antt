@@ -1,0 +1,7 @@
+-- `rounds::without_rows` meets its contract.
+use borrow.Author.Rules.{rules}
+use Rattle.rounds.proofs.CodeLaws.{rows_dropped}
+use Rattle.rounds.proofs.without_rows.Goals as goal
+
+pub returns : goal.returns
+returns c = rows_dropped c.args.budget _ c.drop_rows.ensures c.with.ensures
