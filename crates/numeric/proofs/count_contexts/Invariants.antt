@@ -1,0 +1,16 @@
+-- `numeric::count_contexts` meets its contract.
+use Prim.Native.Nat.{ℕ, ◌-◌, ◌≤◌}
+use mathlib.Core.Path.{◌≡◌, sym, ap, ◌∙◌}
+use mathlib.Core.Logic.{⊎_elim}
+use lib.ListN.{length}
+use Rattle.numeric.specs.Reading.{contexts_of}
+use Rattle.numeric.proofs.ReadingLaws.{none_yet, few, hit_next, miss_next}
+use borrow.Author.Rules.{rules}
+use native.Mathlib.Omega.{arith}
+use Rattle.numeric.proofs.count_contexts.Given as goal
+
+abbrev pub invariant-loop-i : goal.invariant-loop-i
+invariant-loop-i l = (l.found ≡ length (contexts_of l.records l.i l.argument)) × (l.i ≤ l.count)
+
+abbrev pub decreases-loop-i : goal.decreases-loop-i
+decreases-loop-i l = l.count - l.i
