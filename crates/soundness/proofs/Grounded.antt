@@ -24,7 +24,7 @@ use Rattle.rounds.proofs.Copied.{Same, copies_same}
 use Rattle.rounds.proofs.Live.{Room, apply_keeps, image_brings, image_live}
 use Rattle.input.specs.Input.{Tables}
 use Rattle.input.proofs.Reached.{Reached}
-use Rattle.soundness.specs.Plain.{Opaque, State, Choice, into, Proper, PlainBinding, positive, assign, range, aggregate, BindingHolds, AllHold, Fires, HeadsGive}
+use Rattle.soundness.specs.Plain.{GuardHolds, Opaque, State, Choice, into, Proper, PlainBinding, positive, assign, range, aggregate, BindingHolds, AllHold, Fires, HeadsGive}
 use Rattle.soundness.specs.Tied.{binding_of, guard_of, head_of, Constants, Trees}
 use Rattle.soundness.specs.Run.{Accepted, PlainRule, key_of, tree_at, Seeded, Firing, Produces}
 use Rattle.soundness.proofs.Lies.{Lies}
@@ -122,7 +122,7 @@ module _ {p : Accepted} {t : Tables} (g : Grounded p t) (o : Opaque) (values : L
         let e = fires_on o Among' (Among (scene_of (stage f)) values) (λ b z i. i.lies) p f a k h in
         record {
           bindings = subst (λ (l : List PlainBinding). AllHold (BindingHolds o (Among (scene_of (stage f)) values) f.choices.slots) (into 0 f.choices.choice) l) stored.bindings e.fires.bindings;
-          guards = subst (AllHold _ (into 1 f.choices.choice)) stored.guards e.fires.guards;
+          guards = subst (AllHold (GuardHolds o f.choices.slots) (into 1 f.choices.choice)) stored.guards e.fires.guards;
         }
 
     given_by : Hit o f.choices.slots (tree_at p) (heads_at t.rules stored.id) a k
@@ -137,6 +137,7 @@ module _ {p : Accepted} {t : Tables} (g : Grounded p t) (o : Opaque) (values : L
         (subst (λ (i : ℕ). i < n) given_by.argument below, worth_proper (scene_of (stage f)) given_by.choice given_by.proper given_by.head.value k given_by.value)
       where
         member : {x : Head} (hs : List Head) → Memᴰ x hs → All (λ h. h.argument < n) hs → x.argument < n
+        member [] x3 q = elim x3 [ ]
         member (y ∷ hs) (Memᴰ.head e) q = subst (λ (z : Head). z.argument < n) (sym e) q.0
         member (y ∷ hs) (Memᴰ.tail m) q = member hs m q.1
 

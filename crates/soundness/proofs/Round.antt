@@ -125,6 +125,7 @@ pub record Hit (o : Opaque) (x : ℕ → Key) (tree : ℕ → Tree) (hs : List H
   pub value : worth o x choice (tree head.value) ≡ some k
 
 pub hit : (o : Opaque) (x : ℕ → Key) (tree : ℕ → Tree) (ch : Choice) → ProperChoice ch → (hs : List Head) (a : ℕ) (k : Key) → HeadsGive o x ch (map (head_of tree) hs) a k → Hit o x tree hs a k
+hit o x tree ch p [] a k x3 = elim x3 [ ]
 hit o x tree ch p (h ∷ hs) a k (inl g) = record { head = h; among = Memᴰ.head refl; argument = g.0; choice = into 0 ch; proper = proper_into 0 p; value = g.1 }
 hit o x tree ch p (h ∷ hs) a k (inr g) =
     let r = hit o x tree (into 1 ch) (proper_into 1 p) hs a k g in
@@ -183,5 +184,6 @@ module _ {t : Tables} (g : Stage t) (previous : List ℕ) (valued : Valued t pre
       keep_key s q (x ∷ hs) b = (head_has t g.cells g.key count a inside k proper s q x b.0, keep_key s q hs b.1)
 
       pick : (P : Head → Type 0) (x : Head) (hs : List Head) → Memᴰ x hs → All P hs → P x
+      pick P x [] x3 p = elim x3 [ ]
       pick P x (y ∷ hs) (Memᴰ.head e) p = subst P (sym e) p.0
       pick P x (y ∷ hs) (Memᴰ.tail m) p = pick P x hs m p.1

@@ -207,6 +207,7 @@ module _ (ties : (c : input.Call) → input.Typed c → (p : Accepted) (t : inpu
   pub sound_from : (o : Opaque) (fs : List Firing) (a : ℕ) (k : Key) (v : Value) (cs : List Call) → All Typed cs → (p : Accepted) (s : State) → Stands p s →
       Reaches o (heard_from p (play s cs)) fs a k → Memᴰ (event (argument a) (value v)) (play s cs) → LiesIn (heard_from p (play s cs)) k v
   unfolding play heard_from
+  sound_from o fs a k v [] h p s st x x5 = elim x5 [ ]
   sound_from o fs a k v (c ∷ cs) h p s st x (Memᴰ.tail m) = sound_from o fs a k v cs h.1 (noted p c (step c s).answer) (step c s).after (step_stands c h.0 p s st) x m
   sound_from o fs a k v (c ∷ cs) h p s st x (Memᴰ.head e) = read_here (reads s a v (subst (λ (d : Call). (step d s).answer ≡ value v) (ap (λ (z : Event). z.call) (sym e)) (ap (λ (z : Event). z.answer) (sym e)))) st
     where

@@ -283,7 +283,7 @@ module _ (constants : (p : Accepted) (t : Tables) → Tied p t → Constants (ke
           (z.0, (rw z.1 (h.keys.proper k j e), rw z.1 (seed_lies (key_of p) t.constants (constants p t h) k width j e)))
 
       gives : (o : Option Key) → key_of p k ≡ o → (s : Seed) (b : ℕ) (v : Key) → Memᴰ s (seed_of a o) → Gives s b v → (b ≡ a) × (Proper v × Lies (key_of p) t.constants value v)
-      gives none e s b v m g = absurd (Memᴰ.not_nil m)
+      gives none e s b v m g = absurd (Memᴰ.not-nil m)
       gives (some j) e s b v m g = one_gives j e s b v (Memᴰ.eq_of_singleton m) g
 
   pub seed_value_ties : (a k : ℕ) (p : Accepted) (t : Tables) → Tied p t → Ends (λ r u. Tied (said p (input.seed_value a k) r) u) (λ _ u. Tied p u) (call (input.seed_value a k) t)
