@@ -1,0 +1,9 @@
+-- `report::put_stop` meets its contract.
+use Rattle.text.proofs.Words.{line_first}
+use Rattle.report.proofs.LineLaws.{line_last}
+use borrow.Author.Rules.{rules}
+use Rattle.report.proofs.put_stop.Goals as goal
+
+pub returns : goal.returns
+returns c =
+    line_last _ (line_first _ c.put_word-at.ensures) c.put_told-end.ensures.puts c.put_byte.ensures
