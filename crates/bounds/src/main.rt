@@ -2,11 +2,11 @@
 //! run, or the line of the first refusal.
 #![tactic(auto)]
 
-use libc::STDOUT_FILENO;
 use limits::{Limits, Refusal};
 use nodes::{BinaryOp, Expression};
 use report::Written;
 use rules::{Binding, BindingItem, Guard, GuardItem, Head, Lengths, Relation, Rule};
+use std::io::Stdout;
 use store::{Answer, Done, Store};
 
 // The store after a call, the call's id if it has one, and whether it was refused. After a refusal nothing more is called.
@@ -34,31 +34,31 @@ struct Forms {
     next: u64,
 }
 
-// Writes the first `count` bytes of a line.
-fn send(line: &[u8], count: usize) {
+// Writes the first `count` bytes of a line. A failed write is passed over.
+fn send(output: Stdout, line: &[u8], count: usize) {
     if count <= line.len() {
-        io::write_all(STDOUT_FILENO, &line[..count]);
+        let _ = output.write_all(&line[..count]);
     }
 }
 
-fn complain(refusal: Refusal) {
+fn complain(output: Stdout, refusal: Refusal) {
     let mut line = [0u8; report::LINE];
     match report::refusal_line(refusal, &mut line) {
-        Written::Length(n) => send(&line, n),
+        Written::Length(n) => send(output, &line, n),
         Written::Refused(_) => {}
     }
 }
 
 // Writes a line of the report. A line that is refused says so.
-fn tell(written: Written, line: &[u8]) {
+fn tell(output: Stdout, written: Written, line: &[u8]) {
     match written {
-        Written::Length(n) => send(line, n),
-        Written::Refused(refusal) => complain(refusal),
+        Written::Length(n) => send(output, line, n),
+        Written::Refused(refusal) => complain(output, refusal),
     }
 }
 
-fn refused(refusal: Refusal, store: Store) -> Built {
-    complain(refusal);
+fn refused(output: Stdout, refusal: Refusal, store: Store) -> Built {
+    complain(output, refusal);
     Built {
         store,
         id: 0,
@@ -66,9 +66,9 @@ fn refused(refusal: Refusal, store: Store) -> Built {
     }
 }
 
-fn done(done: Done) -> Built {
+fn done(output: Stdout, done: Done) -> Built {
     match done {
-        Done::Refused(refusal, store) => refused(refusal, store),
+        Done::Refused(refusal, store) => refused(output, refusal, store),
         Done::Ok(store) => Built {
             store,
             id: 0,
@@ -77,9 +77,9 @@ fn done(done: Done) -> Built {
     }
 }
 
-fn answered(answer: Answer) -> Built {
+fn answered(output: Stdout, answer: Answer) -> Built {
     match answer {
-        Answer::Refused(refusal, store) => refused(refusal, store),
+        Answer::Refused(refusal, store) => refused(output, refusal, store),
         Answer::Id(id, store) => Built {
             store,
             id: id as u64,
@@ -104,21 +104,22 @@ fn limits() -> Limits {
 }
 
 // A fresh store with a predicate of one argument: the argument's id.
-fn declare(predicates: &mut [u32], seeds: &mut [u32]) -> Built {
-    let fresh = done(store::fresh(limits()));
+fn declare(output: Stdout, predicates: &mut [u32], seeds: &mut [u32]) -> Built {
+    let fresh = done(output, store::fresh(limits()));
     if fresh.refused {
         return fresh;
     }
     let store = fresh.store;
-    let declared = answered(store.predicate(1, predicates, seeds));
+    let declared = answered(output, store.predicate(1, predicates, seeds));
     if declared.refused {
         return declared;
     }
     let store = declared.store;
-    answered(store.argument(declared.id, 0, predicates))
+    answered(output, store.argument(declared.id, 0, predicates))
 }
 
 fn number(
+    output: Stdout,
     built: Built,
     value: i32,
     names: &mut [u8],
@@ -129,10 +130,14 @@ fn number(
     if built.refused {
         return built;
     }
-    answered(constants::constant_number(built.store, value, names, constants, order, thresholds))
+    answered(
+        output,
+        constants::constant_number(built.store, value, names, constants, order, thresholds),
+    )
 }
 
 fn seed(
+    output: Stdout,
     built: Built,
     argument: u64,
     constant: u64,
@@ -143,21 +148,34 @@ fn seed(
     if built.refused {
         return built;
     }
-    done(seeds::seed_value(built.store, argument, constant, constants, seeds, records))
+    done(
+        output,
+        seeds::seed_value(built.store, argument, constant, constants, seeds, records),
+    )
 }
 
-fn expression(built: Built, value: Expression, nodes: &mut [u64]) -> Built {
+fn expression(output: Stdout, built: Built, value: Expression, nodes: &mut [u64]) -> Built {
     if built.refused {
         return built;
     }
-    answered(expressions::expression(built.store, value, nodes))
+    answered(output, expressions::expression(built.store, value, nodes))
 }
 
-fn rule(built: Built, rule: Rule, nodes: &[u64], rules: &mut [u32], records: &mut [u32]) -> Built {
+fn rule(
+    output: Stdout,
+    built: Built,
+    rule: Rule,
+    nodes: &[u64],
+    rules: &mut [u32],
+    records: &mut [u32],
+) -> Built {
     if built.refused {
         return built;
     }
-    answered(producers::rule(built.store, rule, nodes, rules, records))
+    answered(
+        output,
+        producers::rule(built.store, rule, nodes, rules, records),
+    )
 }
 
 // "The argument gets `next` where slot 0 is in the argument and `slot` < `bound`."
@@ -192,15 +210,16 @@ fn counting(argument: u64, slot: u64, bound: u64, next: u64) -> Rule {
 
 // The constants 0, 1 and 10.
 fn values(
+    output: Stdout,
     built: Built,
     names: &mut [u8],
     constants: &mut [u32],
     order: &mut [u32],
     thresholds: &mut [i32],
 ) -> Numbers {
-    let zero = number(built, 0, names, constants, order, thresholds);
-    let one = number(zero, 1, names, constants, order, thresholds);
-    let ten = number(one, 10, names, constants, order, thresholds);
+    let zero = number(output, built, 0, names, constants, order, thresholds);
+    let one = number(output, zero, 1, names, constants, order, thresholds);
+    let ten = number(output, one, 10, names, constants, order, thresholds);
     Numbers {
         built: ten,
         zero: zero.id,
@@ -210,12 +229,12 @@ fn values(
 }
 
 // The expressions slot, 1, 10 and slot + 1.
-fn shapes(built: Built, one: u64, ten: u64, nodes: &mut [u64]) -> Forms {
-    let slot = expression(built, Expression::Slot(0), nodes);
-    let step = expression(slot, Expression::Constant(one), nodes);
-    let bound = expression(step, Expression::Constant(ten), nodes);
+fn shapes(output: Stdout, built: Built, one: u64, ten: u64, nodes: &mut [u64]) -> Forms {
+    let slot = expression(output, built, Expression::Slot(0), nodes);
+    let step = expression(output, slot, Expression::Constant(one), nodes);
+    let bound = expression(output, step, Expression::Constant(ten), nodes);
     let sum = Expression::Binary(BinaryOp::Add, slot.id, step.id);
-    let next = expression(bound, sum, nodes);
+    let next = expression(output, bound, sum, nodes);
     Forms {
         built: next,
         slot: slot.id,
@@ -226,6 +245,7 @@ fn shapes(built: Built, one: u64, ten: u64, nodes: &mut [u64]) -> Forms {
 
 // The whole store up to its run.
 fn build(
+    output: Stdout,
     names: &mut [u8],
     constants: &mut [u32],
     order: &mut [u32],
@@ -236,9 +256,10 @@ fn build(
     records: &mut [u32],
     rules: &mut [u32],
 ) -> Built {
-    let argument = declare(predicates, seeds);
-    let values = values(argument, names, constants, order, thresholds);
+    let argument = declare(output, predicates, seeds);
+    let values = values(output, argument, names, constants, order, thresholds);
     let seeded = seed(
+        output,
         values.built,
         argument.id,
         values.zero,
@@ -246,27 +267,28 @@ fn build(
         seeds,
         records,
     );
-    let shapes = shapes(seeded, values.one, values.ten, nodes);
+    let shapes = shapes(output, seeded, values.one, values.ten, nodes);
     let counting = counting(argument.id, shapes.slot, shapes.bound, shapes.next);
-    rule(shapes.built, counting, nodes, rules, records)
+    rule(output, shapes.built, counting, nodes, rules, records)
 }
 
 // The five lines. The store has one argument, and one rule with one slot.
-fn report(store: Store, rules: &[u32], arguments: &[u32], slots: &[u32]) {
+fn report(output: Stdout, store: Store, rules: &[u32], arguments: &[u32], slots: &[u32]) {
     let mut line = [0u8; report::LINE];
     let status = report::status_line(store, &mut line);
-    tell(status, &line);
+    tell(output, status, &line);
     let argument = report::argument_line(store, arguments, 0, &mut line);
-    tell(argument, &line);
+    tell(output, argument, &line);
     let before = report::slot_line(store, rules, slots, 0, 0, false, &mut line);
-    tell(before, &line);
+    tell(output, before, &line);
     let after = report::slot_line(store, rules, slots, 0, 0, true, &mut line);
-    tell(after, &line);
+    tell(output, after, &line);
     let statistics = report::statistics_line(store, &mut line);
-    tell(statistics, &line);
+    tell(output, statistics, &line);
 }
 
-fn main() {
+fn main(rt: HostRuntime) {
+    let output = rt.stdout();
     let mut names = [0u8; 65536];
     let mut constants = [0u32; 2048];
     let mut order = [0u32; 1024];
@@ -279,6 +301,7 @@ fn main() {
     let mut arguments = [0u32; rounds::ARGUMENTS];
     let mut slots = [0u32; results::BOUNDS];
     let built = build(
+        output,
         &mut names,
         &mut constants,
         &mut order,
@@ -292,18 +315,21 @@ fn main() {
     if built.refused {
         return;
     }
-    let ran = done(engine::run(
-        built.store,
-        &nodes,
-        &constants,
-        &rules,
-        &seeds,
-        &mut thresholds,
-        &mut arguments,
-        &mut slots,
-    ));
+    let ran = done(
+        output,
+        engine::run(
+            built.store,
+            &nodes,
+            &constants,
+            &rules,
+            &seeds,
+            &mut thresholds,
+            &mut arguments,
+            &mut slots,
+        ),
+    );
     if ran.refused {
         return;
     }
-    report(ran.store, &rules, &arguments, &slots);
+    report(output, ran.store, &rules, &arguments, &slots);
 }

@@ -2,7 +2,8 @@
 use crate::lines;
 use crate::parts::{ReadExpression, ReadInterval, ReadLimits, ReadPair, ReadRule};
 use crate::tables::{
-    Arguments, Buffer, Constants, Nodes, Order, Predicates, Records, Rules, Thresholds,
+    Arguments, Buffer, Constants, Nodes, Order, OutputBuffer, Predicates, Records, Rules,
+    Thresholds,
 };
 use crate::words::{Cursor, ReadNumber, ReadSigned};
 use store::{Answer, Done, Store};
@@ -33,7 +34,7 @@ impl Session {
     }
 
     // A call without an id is answered.
-    pub fn done(at: usize, cursor: Cursor, done: Done, output: &mut Buffer) -> Session {
+    pub fn done(at: usize, cursor: Cursor, done: Done, output: &mut OutputBuffer) -> Session {
         match done {
             Done::Ok(store) => {
                 let at = lines::ok(output, at);
@@ -47,7 +48,12 @@ impl Session {
     }
 
     // A call with an id is answered.
-    pub fn answered(at: usize, cursor: Cursor, answer: Answer, output: &mut Buffer) -> Session {
+    pub fn answered(
+        at: usize,
+        cursor: Cursor,
+        answer: Answer,
+        output: &mut OutputBuffer,
+    ) -> Session {
         match answer {
             Answer::Id(id, store) => {
                 let at = lines::ok_id(output, at, id);
@@ -61,7 +67,7 @@ impl Session {
     }
 }
 
-pub fn fresh(session: Session, read: ReadLimits, output: &mut Buffer) -> Session {
+pub fn fresh(session: Session, read: ReadLimits, output: &mut OutputBuffer) -> Session {
     let behind = read.cursor;
     if 0 < behind.faults {
         return session.behind(behind);
@@ -69,7 +75,7 @@ pub fn fresh(session: Session, read: ReadLimits, output: &mut Buffer) -> Session
     Session::done(session.at, behind, store::fresh(read.limits), output)
 }
 
-pub fn context(session: Session, read: ReadNumber, output: &mut Buffer) -> Session {
+pub fn context(session: Session, read: ReadNumber, output: &mut OutputBuffer) -> Session {
     let behind = read.cursor;
     let value = read.value;
     let store = session.store;
@@ -82,7 +88,7 @@ pub fn context(session: Session, read: ReadNumber, output: &mut Buffer) -> Sessi
     Session::done(session.at, behind, store.context(value as u32), output)
 }
 
-pub fn work(session: Session, read: ReadNumber, output: &mut Buffer) -> Session {
+pub fn work(session: Session, read: ReadNumber, output: &mut OutputBuffer) -> Session {
     let behind = read.cursor;
     let store = session.store;
     if 0 < behind.faults {
@@ -94,7 +100,7 @@ pub fn work(session: Session, read: ReadNumber, output: &mut Buffer) -> Session 
 pub fn predicate(
     session: Session,
     arity: ReadNumber,
-    output: &mut Buffer,
+    output: &mut OutputBuffer,
     predicates: &mut Predicates,
     seeds: &mut Arguments,
 ) -> Session {
@@ -114,7 +120,7 @@ pub fn predicate(
 pub fn argument(
     session: Session,
     read: ReadPair,
-    output: &mut Buffer,
+    output: &mut OutputBuffer,
     predicates: &Predicates,
 ) -> Session {
     let behind = read.cursor;
@@ -133,7 +139,7 @@ pub fn argument(
 pub fn number(
     session: Session,
     read: ReadSigned,
-    output: &mut Buffer,
+    output: &mut OutputBuffer,
     names: &mut Buffer,
     constants: &mut Constants,
     order: &mut Order,
@@ -159,7 +165,7 @@ pub fn name(
     session: Session,
     len: ReadNumber,
     bytes: &[u8],
-    output: &mut Buffer,
+    output: &mut OutputBuffer,
     names: &mut Buffer,
     constants: &mut Constants,
     order: &mut Order,
@@ -187,7 +193,7 @@ pub fn name(
 pub fn expression(
     session: Session,
     read: ReadExpression,
-    output: &mut Buffer,
+    output: &mut OutputBuffer,
     nodes: &mut Nodes,
 ) -> Session {
     let behind = read.cursor;
@@ -206,7 +212,7 @@ pub fn expression(
 pub fn seed_value(
     session: Session,
     read: ReadPair,
-    output: &mut Buffer,
+    output: &mut OutputBuffer,
     constants: &Constants,
     seeds: &mut Arguments,
     records: &mut Records,
@@ -229,7 +235,7 @@ pub fn seed_value(
 pub fn seed_interval(
     session: Session,
     read: ReadInterval,
-    output: &mut Buffer,
+    output: &mut OutputBuffer,
     seeds: &mut Arguments,
     records: &mut Records,
     thresholds: &mut Thresholds,
@@ -253,7 +259,7 @@ pub fn seed_interval(
 pub fn rule(
     session: Session,
     read: ReadRule,
-    output: &mut Buffer,
+    output: &mut OutputBuffer,
     nodes: &Nodes,
     rules: &mut Rules,
     records: &mut Records,

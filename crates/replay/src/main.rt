@@ -12,7 +12,8 @@ use calls::Session;
 use limits::Limits;
 use store::{Done, Store};
 use tables::{
-    Arguments, Buffer, Constants, Nodes, Order, Predicates, Records, Rules, Slots, Thresholds,
+    Arguments, Buffer, Constants, InputBuffer, Nodes, Order, OutputBuffer, Predicates, Records,
+    Rules, Slots, Thresholds,
 };
 use words::{Cursor, ReadNumber};
 
@@ -36,7 +37,7 @@ fn nothing() -> Store {
 }
 
 // A job begins with a fresh store; any other text, an empty one too, is none.
-fn begin(input: &mut Buffer, output: &mut Buffer) -> Session {
+fn begin(input: &mut InputBuffer, output: &mut OutputBuffer) -> Session {
     let call = words::call(input, Cursor::new());
     let cursor = call.cursor;
     let session = Session {
@@ -51,7 +52,12 @@ fn begin(input: &mut Buffer, output: &mut Buffer) -> Session {
 }
 
 // The calls 1 to 3, which need no table.
-fn plain(session: Session, call: ReadNumber, input: &mut Buffer, output: &mut Buffer) -> Session {
+fn plain(
+    session: Session,
+    call: ReadNumber,
+    input: &mut InputBuffer,
+    output: &mut OutputBuffer,
+) -> Session {
     let cursor = call.cursor;
     let number = call.value;
     match number {
@@ -65,8 +71,8 @@ fn plain(session: Session, call: ReadNumber, input: &mut Buffer, output: &mut Bu
 fn constant(
     session: Session,
     call: ReadNumber,
-    input: &mut Buffer,
-    output: &mut Buffer,
+    input: &mut InputBuffer,
+    output: &mut OutputBuffer,
     names: &mut Buffer,
     constants: &mut Constants,
     order: &mut Order,
@@ -88,8 +94,8 @@ fn constant(
 fn seed(
     session: Session,
     call: ReadNumber,
-    input: &mut Buffer,
-    output: &mut Buffer,
+    input: &mut InputBuffer,
+    output: &mut OutputBuffer,
     constants: &Constants,
     seeds: &mut Arguments,
     records: &mut Records,
@@ -108,8 +114,8 @@ fn seed(
 fn reading(
     session: Session,
     call: ReadNumber,
-    input: &mut Buffer,
-    output: &mut Buffer,
+    input: &mut InputBuffer,
+    output: &mut OutputBuffer,
     names: &Buffer,
     constants: &Constants,
     records: &Records,
@@ -137,8 +143,8 @@ fn reading(
 fn early(
     session: Session,
     call: ReadNumber,
-    input: &mut Buffer,
-    output: &mut Buffer,
+    input: &mut InputBuffer,
+    output: &mut OutputBuffer,
     names: &mut Buffer,
     constants: &mut Constants,
     order: &mut Order,
@@ -176,8 +182,8 @@ fn early(
 fn late(
     session: Session,
     call: ReadNumber,
-    input: &mut Buffer,
-    output: &mut Buffer,
+    input: &mut InputBuffer,
+    output: &mut OutputBuffer,
     names: &Buffer,
     constants: &Constants,
     thresholds: &mut Thresholds,
@@ -215,8 +221,8 @@ fn late(
 fn step(
     session: Session,
     call: ReadNumber,
-    input: &mut Buffer,
-    output: &mut Buffer,
+    input: &mut InputBuffer,
+    output: &mut OutputBuffer,
     names: &mut Buffer,
     constants: &mut Constants,
     order: &mut Order,
@@ -242,7 +248,7 @@ fn step(
 }
 
 // The next call; a text that has ended or is no job has none.
-fn next_call(input: &mut Buffer, cursor: Cursor) -> ReadNumber {
+fn next_call(input: &mut InputBuffer, cursor: Cursor) -> ReadNumber {
     if 0 < cursor.faults {
         return ReadNumber { value: 0, cursor };
     }
@@ -252,8 +258,8 @@ fn next_call(input: &mut Buffer, cursor: Cursor) -> ReadNumber {
 // Answers calls until the text ends or is found to be no job. The run is called here and not by `step`: a frame as large as its tables is
 // then entered once and not for every line. A loop has to end, so turns are counted down from more than any run has.
 fn serve(
-    input: &mut Buffer,
-    output: &mut Buffer,
+    input: &mut InputBuffer,
+    output: &mut OutputBuffer,
     names: &mut Buffer,
     constants: &mut Constants,
     order: &mut Order,
@@ -296,7 +302,7 @@ fn serve(
 }
 
 // The last line of a text that is no job, and all that is not written out yet.
-fn finish(cursor: Cursor, output: &mut Buffer, at: usize) {
+fn finish(cursor: Cursor, output: &mut OutputBuffer, at: usize) {
     if 0 < cursor.faults {
         let end = lines::put(output, at, b"malformed\n", 10);
         lines::flush(output, end);
@@ -305,9 +311,15 @@ fn finish(cursor: Cursor, output: &mut Buffer, at: usize) {
     lines::flush(output, at);
 }
 
-fn main() {
-    let mut input = [0u8; 65536];
-    let mut output = [0u8; 65536];
+fn main(rt: HostRuntime) {
+    let mut input = InputBuffer {
+        from: rt.stdin(),
+        bytes: [0u8; 65536],
+    };
+    let mut output = OutputBuffer {
+        to: rt.stdout(),
+        bytes: [0u8; 65536],
+    };
     let mut names = [0u8; 65536];
     let mut constants = [0u32; 2048];
     let mut order = [0u32; 1024];

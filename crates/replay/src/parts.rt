@@ -1,6 +1,6 @@
 //! The parts of a job's calls that are more than numbers: limits, expressions, and rules with their bindings, guards and heads. Counts of
 //! a rule may pass what a rule can hold: its lengths tell, and what has no room is read and dropped.
-use crate::tables::Buffer;
+use crate::tables::InputBuffer;
 use crate::words;
 use crate::words::{Cursor, ReadNumber};
 use limits::Limits;
@@ -88,7 +88,7 @@ struct ReadHeads {
     cursor: Cursor,
 }
 
-fn three(input: &mut Buffer, cursor: Cursor) -> ReadThree {
+fn three(input: &mut InputBuffer, cursor: Cursor) -> ReadThree {
     let a = words::wide(input, cursor);
     let b = words::wide(input, a.cursor);
     let c = words::wide(input, b.cursor);
@@ -101,7 +101,7 @@ fn three(input: &mut Buffer, cursor: Cursor) -> ReadThree {
     }
 }
 
-pub fn limits(input: &mut Buffer, cursor: Cursor) -> ReadLimits {
+pub fn limits(input: &mut InputBuffer, cursor: Cursor) -> ReadLimits {
     let first = three(input, cursor);
     let second = three(input, first.cursor);
     let third = three(input, second.cursor);
@@ -123,7 +123,7 @@ pub fn limits(input: &mut Buffer, cursor: Cursor) -> ReadLimits {
     }
 }
 
-pub fn pair(input: &mut Buffer, cursor: Cursor) -> ReadPair {
+pub fn pair(input: &mut InputBuffer, cursor: Cursor) -> ReadPair {
     let first = words::wide(input, cursor);
     let second = words::wide(input, first.cursor);
     let behind = second.cursor;
@@ -134,7 +134,7 @@ pub fn pair(input: &mut Buffer, cursor: Cursor) -> ReadPair {
     }
 }
 
-pub fn interval(input: &mut Buffer, cursor: Cursor) -> ReadInterval {
+pub fn interval(input: &mut InputBuffer, cursor: Cursor) -> ReadInterval {
     let argument = words::wide(input, cursor);
     let low = words::signed(input, argument.cursor);
     let high = words::signed(input, low.cursor);
@@ -154,7 +154,7 @@ fn put_byte(bytes: &mut [u8], i: usize, byte: u64) {
 }
 
 // The bytes of a name: how many there are.
-pub fn name(input: &mut Buffer, cursor: Cursor, bytes: &mut [u8]) -> ReadNumber {
+pub fn name(input: &mut InputBuffer, cursor: Cursor, bytes: &mut [u8]) -> ReadNumber {
     let count = words::number(input, cursor, NAME as u64);
     let mut here = count.cursor;
     let mut i: usize = 0;
@@ -171,7 +171,7 @@ pub fn name(input: &mut Buffer, cursor: Cursor, bytes: &mut [u8]) -> ReadNumber 
     }
 }
 
-fn unary(input: &mut Buffer, cursor: Cursor) -> ReadExpression {
+fn unary(input: &mut InputBuffer, cursor: Cursor) -> ReadExpression {
     let operator = words::number(input, cursor, 1);
     let child = words::wide(input, operator.cursor);
     let behind = child.cursor;
@@ -181,7 +181,7 @@ fn unary(input: &mut Buffer, cursor: Cursor) -> ReadExpression {
     }
 }
 
-fn binary(input: &mut Buffer, cursor: Cursor) -> ReadExpression {
+fn binary(input: &mut InputBuffer, cursor: Cursor) -> ReadExpression {
     let operator = words::number(input, cursor, 8);
     let left = words::wide(input, operator.cursor);
     let right = words::wide(input, left.cursor);
@@ -193,7 +193,7 @@ fn binary(input: &mut Buffer, cursor: Cursor) -> ReadExpression {
 }
 
 // A reason is a number from 1 to 6.
-fn reason(input: &mut Buffer, cursor: Cursor) -> ReadNumber {
+fn reason(input: &mut InputBuffer, cursor: Cursor) -> ReadNumber {
     let read = words::number(input, cursor, 6);
     let behind = read.cursor;
     if read.value == 0 {
@@ -205,7 +205,7 @@ fn reason(input: &mut Buffer, cursor: Cursor) -> ReadNumber {
     read
 }
 
-fn unknown(input: &mut Buffer, cursor: Cursor) -> ReadExpression {
+fn unknown(input: &mut InputBuffer, cursor: Cursor) -> ReadExpression {
     let integer = words::number(input, cursor, 1);
     let reason = reason(input, integer.cursor);
     let behind = reason.cursor;
@@ -216,7 +216,7 @@ fn unknown(input: &mut Buffer, cursor: Cursor) -> ReadExpression {
 }
 
 // A constant, a slot or an absolute value: one number.
-fn single(input: &mut Buffer, cursor: Cursor, call: u64) -> ReadExpression {
+fn single(input: &mut InputBuffer, cursor: Cursor, call: u64) -> ReadExpression {
     let read = words::wide(input, cursor);
     let behind = read.cursor;
     if call == 10 {
@@ -238,7 +238,7 @@ fn single(input: &mut Buffer, cursor: Cursor, call: u64) -> ReadExpression {
 }
 
 // The expression of the calls 10 to 15.
-pub fn expression(input: &mut Buffer, cursor: Cursor, call: u64) -> ReadExpression {
+pub fn expression(input: &mut InputBuffer, cursor: Cursor, call: u64) -> ReadExpression {
     match call {
         12 => unary(input, cursor),
         14 => binary(input, cursor),
@@ -247,7 +247,7 @@ pub fn expression(input: &mut Buffer, cursor: Cursor, call: u64) -> ReadExpressi
     }
 }
 
-fn range(input: &mut Buffer, cursor: Cursor, slot: u64) -> ReadBinding {
+fn range(input: &mut InputBuffer, cursor: Cursor, slot: u64) -> ReadBinding {
     let low = words::wide(input, cursor);
     let high = words::wide(input, low.cursor);
     let behind = high.cursor;
@@ -261,7 +261,7 @@ fn range(input: &mut Buffer, cursor: Cursor, slot: u64) -> ReadBinding {
     }
 }
 
-fn aggregate(input: &mut Buffer, cursor: Cursor, slot: u64) -> ReadBinding {
+fn aggregate(input: &mut InputBuffer, cursor: Cursor, slot: u64) -> ReadBinding {
     let code = words::number(input, cursor, 4);
     let behind = code.cursor;
     ReadBinding {
@@ -274,7 +274,7 @@ fn aggregate(input: &mut Buffer, cursor: Cursor, slot: u64) -> ReadBinding {
 }
 
 // A positive binding or an assignment: one number behind the slot.
-fn bound(input: &mut Buffer, cursor: Cursor, kind: u64, slot: u64) -> ReadBinding {
+fn bound(input: &mut InputBuffer, cursor: Cursor, kind: u64, slot: u64) -> ReadBinding {
     let read = words::wide(input, cursor);
     let behind = read.cursor;
     if kind == 0 {
@@ -295,7 +295,7 @@ fn bound(input: &mut Buffer, cursor: Cursor, kind: u64, slot: u64) -> ReadBindin
     }
 }
 
-fn binding(input: &mut Buffer, cursor: Cursor) -> ReadBinding {
+fn binding(input: &mut InputBuffer, cursor: Cursor) -> ReadBinding {
     let kind = words::number(input, cursor, 3);
     let slot = words::wide(input, kind.cursor);
     let number = kind.value;
@@ -306,7 +306,7 @@ fn binding(input: &mut Buffer, cursor: Cursor) -> ReadBinding {
     }
 }
 
-fn comparison(input: &mut Buffer, cursor: Cursor) -> ReadGuard {
+fn comparison(input: &mut InputBuffer, cursor: Cursor) -> ReadGuard {
     let left = words::wide(input, cursor);
     let code = words::number(input, left.cursor, 5);
     let right = words::wide(input, code.cursor);
@@ -321,7 +321,7 @@ fn comparison(input: &mut Buffer, cursor: Cursor) -> ReadGuard {
     }
 }
 
-fn membership(input: &mut Buffer, cursor: Cursor) -> ReadGuard {
+fn membership(input: &mut InputBuffer, cursor: Cursor) -> ReadGuard {
     let slot = words::wide(input, cursor);
     let low = words::wide(input, slot.cursor);
     let high = words::wide(input, low.cursor);
@@ -336,7 +336,7 @@ fn membership(input: &mut Buffer, cursor: Cursor) -> ReadGuard {
     }
 }
 
-fn guard(input: &mut Buffer, cursor: Cursor) -> ReadGuard {
+fn guard(input: &mut InputBuffer, cursor: Cursor) -> ReadGuard {
     let kind = words::number(input, cursor, 1);
     if kind.value == 0 {
         return comparison(input, kind.cursor);
@@ -344,7 +344,7 @@ fn guard(input: &mut Buffer, cursor: Cursor) -> ReadGuard {
     membership(input, kind.cursor)
 }
 
-fn bindings(input: &mut Buffer, cursor: Cursor) -> ReadBindings {
+fn bindings(input: &mut InputBuffer, cursor: Cursor) -> ReadBindings {
     let count = words::number(input, cursor, PARTS);
     let first = Binding::Positive {
         slot: 0,
@@ -370,7 +370,7 @@ fn bindings(input: &mut Buffer, cursor: Cursor) -> ReadBindings {
     }
 }
 
-fn guards(input: &mut Buffer, cursor: Cursor) -> ReadGuards {
+fn guards(input: &mut InputBuffer, cursor: Cursor) -> ReadGuards {
     let count = words::number(input, cursor, PARTS);
     let first = Guard::Membership {
         slot: 0,
@@ -397,7 +397,7 @@ fn guards(input: &mut Buffer, cursor: Cursor) -> ReadGuards {
     }
 }
 
-fn heads(input: &mut Buffer, cursor: Cursor) -> ReadHeads {
+fn heads(input: &mut InputBuffer, cursor: Cursor) -> ReadHeads {
     let count = words::number(input, cursor, PARTS);
     let first = Head {
         argument: 0,
@@ -427,7 +427,7 @@ fn heads(input: &mut Buffer, cursor: Cursor) -> ReadHeads {
 }
 
 // Integer queries are counted alone: no rule has any.
-fn queries(input: &mut Buffer, cursor: Cursor) -> ReadNumber {
+fn queries(input: &mut InputBuffer, cursor: Cursor) -> ReadNumber {
     let count = words::number(input, cursor, PARTS);
     let mut here = count.cursor;
     let mut i: u64 = 0;
@@ -443,7 +443,7 @@ fn queries(input: &mut Buffer, cursor: Cursor) -> ReadNumber {
     }
 }
 
-pub fn rule(input: &mut Buffer, cursor: Cursor) -> ReadRule {
+pub fn rule(input: &mut InputBuffer, cursor: Cursor) -> ReadRule {
     let slots = words::wide(input, cursor);
     let bindings = bindings(input, slots.cursor);
     let guards = guards(input, bindings.cursor);

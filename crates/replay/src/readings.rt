@@ -2,7 +2,9 @@
 use crate::calls::Session;
 use crate::lines;
 use crate::parts::ReadPair;
-use crate::tables::{Arguments, Buffer, Constants, Nodes, Records, Rules, Slots, Thresholds};
+use crate::tables::{
+    Arguments, Buffer, Constants, Nodes, OutputBuffer, Records, Rules, Slots, Thresholds,
+};
 use crate::words::{Cursor, ReadNumber};
 use limits::Statistics;
 use numeric::{Bounded, Counted, Keyed};
@@ -12,7 +14,7 @@ fn argument_line(
     store: Store,
     argument: u64,
     arguments: &Arguments,
-    output: &mut Buffer,
+    output: &mut OutputBuffer,
     at: usize,
 ) -> usize {
     let mut line = [0u8; report::LINE];
@@ -27,7 +29,7 @@ fn slot_line(
     after: bool,
     rules: &Rules,
     slots: &Slots,
-    output: &mut Buffer,
+    output: &mut OutputBuffer,
     at: usize,
 ) -> usize {
     let mut line = [0u8; report::LINE];
@@ -35,19 +37,24 @@ fn slot_line(
     lines::line(output, at, written, &line)
 }
 
-fn status_line(store: Store, output: &mut Buffer, at: usize) -> usize {
+fn status_line(store: Store, output: &mut OutputBuffer, at: usize) -> usize {
     let mut line = [0u8; report::LINE];
     let written = report::status_line(store, &mut line);
     lines::line(output, at, written, &line)
 }
 
-fn statistics_line(store: Store, output: &mut Buffer, at: usize) -> usize {
+fn statistics_line(store: Store, output: &mut OutputBuffer, at: usize) -> usize {
     let mut line = [0u8; report::LINE];
     let written = report::statistics_line(store, &mut line);
     lines::line(output, at, written, &line)
 }
 
-fn argument_lines(store: Store, arguments: &Arguments, output: &mut Buffer, at: usize) -> usize {
+fn argument_lines(
+    store: Store,
+    arguments: &Arguments,
+    output: &mut OutputBuffer,
+    at: usize,
+) -> usize {
     let counts = store.counts;
     let end = counts.positions as u64;
     let mut place = at;
@@ -66,7 +73,7 @@ fn both_lines(
     slot: u64,
     rules: &Rules,
     slots: &Slots,
-    output: &mut Buffer,
+    output: &mut OutputBuffer,
     at: usize,
 ) -> usize {
     let place = slot_line(store, rule, slot, false, rules, slots, output, at);
@@ -78,7 +85,7 @@ fn slot_lines(
     rule: u64,
     rules: &Rules,
     slots: &Slots,
-    output: &mut Buffer,
+    output: &mut OutputBuffer,
     at: usize,
 ) -> usize {
     let end = rules::slots_at(rules, rule as usize);
@@ -96,7 +103,7 @@ fn rule_lines(
     end: u64,
     rules: &Rules,
     slots: &Slots,
-    output: &mut Buffer,
+    output: &mut OutputBuffer,
     at: usize,
 ) -> usize {
     let mut place = at;
@@ -124,7 +131,7 @@ fn report(
     rules: &Rules,
     arguments: &Arguments,
     slots: &Slots,
-    output: &mut Buffer,
+    output: &mut OutputBuffer,
     at: usize,
 ) -> usize {
     let counts = store.counts;
@@ -144,7 +151,7 @@ fn ended(
     rules: &Rules,
     arguments: &Arguments,
     slots: &Slots,
-    output: &mut Buffer,
+    output: &mut OutputBuffer,
     at: usize,
 ) -> Session {
     match done {
@@ -162,7 +169,7 @@ fn ended(
 pub fn run(
     session: Session,
     cursor: Cursor,
-    output: &mut Buffer,
+    output: &mut OutputBuffer,
     nodes: &Nodes,
     constants: &Constants,
     rules: &Rules,
@@ -187,7 +194,7 @@ pub fn run(
 pub fn argument(
     session: Session,
     id: ReadNumber,
-    output: &mut Buffer,
+    output: &mut OutputBuffer,
     arguments: &Arguments,
 ) -> Session {
     let behind = id.cursor;
@@ -203,7 +210,7 @@ fn context_word(
     argument: u64,
     k: u64,
     records: &Records,
-    output: &mut Buffer,
+    output: &mut OutputBuffer,
     at: usize,
 ) -> usize {
     match numeric::context(store, records, argument, k) {
@@ -217,7 +224,7 @@ fn context_words(
     argument: u64,
     count: u64,
     records: &Records,
-    output: &mut Buffer,
+    output: &mut OutputBuffer,
     at: usize,
 ) -> usize {
     let mut place = at;
@@ -233,7 +240,7 @@ fn contexts_line(
     store: Store,
     argument: u64,
     records: &Records,
-    output: &mut Buffer,
+    output: &mut OutputBuffer,
     at: usize,
 ) -> usize {
     match numeric::context_count(store, records, argument) {
@@ -250,7 +257,7 @@ fn contexts_line(
 pub fn contexts(
     session: Session,
     id: ReadNumber,
-    output: &mut Buffer,
+    output: &mut OutputBuffer,
     records: &Records,
 ) -> Session {
     let behind = id.cursor;
@@ -268,7 +275,7 @@ fn slot_reading(
     slot: u64,
     rules: &Rules,
     slots: &Slots,
-    output: &mut Buffer,
+    output: &mut OutputBuffer,
     at: usize,
 ) -> usize {
     match numeric::slot(store, rules, slots, rule, slot, false) {
@@ -280,7 +287,7 @@ fn slot_reading(
 pub fn slot(
     session: Session,
     read: ReadPair,
-    output: &mut Buffer,
+    output: &mut OutputBuffer,
     rules: &Rules,
     slots: &Slots,
 ) -> Session {
@@ -304,7 +311,7 @@ fn wide(byte: u8) -> u64 {
     byte as u64
 }
 
-fn name_bytes(name: &[u8], output: &mut Buffer, at: usize) -> usize {
+fn name_bytes(name: &[u8], output: &mut OutputBuffer, at: usize) -> usize {
     let mut place = at;
     let mut i: usize = 0;
     while i < name.len() {
@@ -319,7 +326,7 @@ fn name_words(
     constant: u64,
     names: &Buffer,
     constants: &Constants,
-    output: &mut Buffer,
+    output: &mut OutputBuffer,
     at: usize,
 ) -> usize {
     let mut refusal: u64 = 0;
@@ -330,7 +337,7 @@ fn name_words(
     lines::end_line(output, end)
 }
 
-fn key_start(output: &mut Buffer, at: usize, constant: u64) -> usize {
+fn key_start(output: &mut OutputBuffer, at: usize, constant: u64) -> usize {
     let letter = lines::put(output, at, b"k", 1);
     lines::number(output, letter, constant)
 }
@@ -340,7 +347,7 @@ fn key_line(
     constant: u64,
     names: &Buffer,
     constants: &Constants,
-    output: &mut Buffer,
+    output: &mut OutputBuffer,
     at: usize,
 ) -> usize {
     match numeric::key(store, constants, constant) {
@@ -365,7 +372,7 @@ fn key_line(
 pub fn key(
     session: Session,
     id: ReadNumber,
-    output: &mut Buffer,
+    output: &mut OutputBuffer,
     names: &Buffer,
     constants: &Constants,
 ) -> Session {
@@ -384,7 +391,7 @@ pub fn key(
     session.told(behind, at)
 }
 
-fn counts_line(counts: Statistics, output: &mut Buffer, at: usize) -> usize {
+fn counts_line(counts: Statistics, output: &mut OutputBuffer, at: usize) -> usize {
     let letter = lines::put(output, at, b"n", 1);
     let links = lines::four(
         output,
@@ -406,7 +413,7 @@ fn counts_line(counts: Statistics, output: &mut Buffer, at: usize) -> usize {
 }
 
 // All counts.
-pub fn counts(session: Session, cursor: Cursor, output: &mut Buffer) -> Session {
+pub fn counts(session: Session, cursor: Cursor, output: &mut OutputBuffer) -> Session {
     let store = session.store;
     let budget = store.budget;
     let at = counts_line(budget.statistics, output, session.at);
@@ -422,7 +429,7 @@ fn stop_context(phase: Phase) -> Context {
     }
 }
 
-fn stop_line(context: Context, output: &mut Buffer, at: usize) -> usize {
+fn stop_line(context: Context, output: &mut OutputBuffer, at: usize) -> usize {
     match context {
         Context::None => lines::put(output, at, b"c -\n", 4),
         Context::Some(context) => {
@@ -434,7 +441,7 @@ fn stop_line(context: Context, output: &mut Buffer, at: usize) -> usize {
 }
 
 // The context in force where a run stopped.
-pub fn stopped_in(session: Session, cursor: Cursor, output: &mut Buffer) -> Session {
+pub fn stopped_in(session: Session, cursor: Cursor, output: &mut OutputBuffer) -> Session {
     let store = session.store;
     let phase = store.phase;
     let at = stop_line(stop_context(phase), output, session.at);

@@ -1,7 +1,7 @@
 //! Standard input as the text of a job: decimal integers, parted by spaces and line feeds. The buffer is lent, and filled anew once it is
 //! used up, so that a text of any length can be read.
-use crate::tables::Buffer;
-use libc::STDIN_FILENO;
+use crate::tables::InputBuffer;
+use std::io::Read;
 
 // Where reading stands: the next byte and the end of what the buffer has; a place beyond the end says that the text is over. Once the text
 // is found to be no job, it has a fault, and all later readings give 0. All fields are words: flags would be copied by way of memory.
@@ -72,12 +72,11 @@ impl Cursor {
 }
 
 // More of the text, where all that the buffer has is read. A read that fails ends the text.
-fn fill(input: &mut [u8], cursor: Cursor) -> Cursor {
+fn fill(input: &mut InputBuffer, cursor: Cursor) -> Cursor {
     if cursor.at != cursor.end {
         return cursor;
     }
-    let got = libc::read(STDIN_FILENO, input);
-    let n = io::count(got, input);
+    let n = input.from.read(&mut input.bytes).unwrap_or(0);
     let faults = cursor.faults;
     if n == 0 {
         return Cursor {
@@ -94,13 +93,13 @@ fn fill(input: &mut [u8], cursor: Cursor) -> Cursor {
 }
 
 // The byte where reading stands. The end of the text parts words too.
-fn byte_at(input: &Buffer, cursor: Cursor) -> u8 {
+fn byte_at(input: &InputBuffer, cursor: Cursor) -> u8 {
     let at = cursor.at;
     if cursor.end <= at {
         return b' ';
     }
-    if at < input.len() {
-        return input[at];
+    if at < input.bytes.len() {
+        return input.bytes[at];
     }
     b' '
 }
@@ -119,7 +118,7 @@ fn is_digit(byte: u8) -> bool {
     byte <= b'9'
 }
 
-fn is_blank(input: &Buffer, cursor: Cursor) -> bool {
+fn is_blank(input: &InputBuffer, cursor: Cursor) -> bool {
     if cursor.is_over() {
         return false;
     }
@@ -127,7 +126,7 @@ fn is_blank(input: &Buffer, cursor: Cursor) -> bool {
 }
 
 // The start of the next word, or the end of the text. Nothing says that a text ends, so turns are counted down from more than any run has.
-fn skip(input: &mut Buffer, cursor: Cursor) -> Cursor {
+fn skip(input: &mut InputBuffer, cursor: Cursor) -> Cursor {
     let mut here = fill(input, cursor);
     let mut turns = u64::MAX;
     while turns > 0 && is_blank(input, here) {
@@ -165,11 +164,11 @@ fn digit_of(byte: u8) -> u64 {
     (byte - b'0') as u64
 }
 
-fn is_at_digit(input: &Buffer, cursor: Cursor) -> bool {
+fn is_at_digit(input: &InputBuffer, cursor: Cursor) -> bool {
     is_digit(byte_at(input, cursor))
 }
 
-fn take_digits(input: &mut Buffer, cursor: Cursor) -> Digits {
+fn take_digits(input: &mut InputBuffer, cursor: Cursor) -> Digits {
     let mut here = cursor;
     let mut value: u64 = 0;
     let mut large = false;
@@ -203,7 +202,7 @@ fn no_word(cursor: Cursor) -> ReadWord {
 }
 
 // The digits of a word up to its end.
-fn unsigned_word(input: &mut Buffer, negative: bool, cursor: Cursor) -> ReadWord {
+fn unsigned_word(input: &mut InputBuffer, negative: bool, cursor: Cursor) -> ReadWord {
     let read = take_digits(input, cursor);
     let behind = read.cursor;
     if !read.any {
@@ -221,7 +220,7 @@ fn unsigned_word(input: &mut Buffer, negative: bool, cursor: Cursor) -> ReadWord
 }
 
 // The next word, which is to be an integer.
-fn word(input: &mut Buffer, cursor: Cursor) -> ReadWord {
+fn word(input: &mut InputBuffer, cursor: Cursor) -> ReadWord {
     if 0 < cursor.faults {
         return no_word(cursor);
     }
@@ -241,7 +240,7 @@ fn no_number(cursor: Cursor) -> ReadNumber {
 }
 
 // A number from 0 to `most`.
-pub fn number(input: &mut Buffer, cursor: Cursor, most: u64) -> ReadNumber {
+pub fn number(input: &mut InputBuffer, cursor: Cursor, most: u64) -> ReadNumber {
     let read = word(input, cursor);
     let behind = read.cursor;
     let value = read.value;
@@ -264,7 +263,7 @@ pub fn number(input: &mut Buffer, cursor: Cursor, most: u64) -> ReadNumber {
 }
 
 // An id, a position, a slot, an arity or a limit.
-pub fn wide(input: &mut Buffer, cursor: Cursor) -> ReadNumber {
+pub fn wide(input: &mut InputBuffer, cursor: Cursor) -> ReadNumber {
     number(input, cursor, u64::MAX)
 }
 
@@ -276,7 +275,7 @@ fn no_signed(cursor: Cursor) -> ReadSigned {
 }
 
 // A number of 32 signed bits.
-pub fn signed(input: &mut Buffer, cursor: Cursor) -> ReadSigned {
+pub fn signed(input: &mut InputBuffer, cursor: Cursor) -> ReadSigned {
     let read = word(input, cursor);
     let behind = read.cursor;
     let value = read.value;
@@ -305,7 +304,7 @@ pub fn signed(input: &mut Buffer, cursor: Cursor) -> ReadSigned {
 }
 
 // The number of the next call, or 0 at the end of the text. No call has the number 0.
-pub fn call(input: &mut Buffer, cursor: Cursor) -> ReadNumber {
+pub fn call(input: &mut InputBuffer, cursor: Cursor) -> ReadNumber {
     let start = skip(input, cursor);
     if start.is_over() {
         return ReadNumber {
