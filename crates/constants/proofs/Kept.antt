@@ -15,7 +15,7 @@ use Rattle.integers.specs.Lists.{inserted}
 use Rattle.integers.proofs.Insertion.{inserted_length}
 use Rattle.limits.specs.declared.Refusal.TheVariants.{Limit}
 use Rattle.limits.specs.Refusal.{Told, told}
-use Rattle.limits.specs.Metered.{stopped, ◌>>◌}
+use Rattle.limits.specs.Metered.{◌>>◌}
 use Rattle.limits.specs.Meter.{metered}
 use Rattle.limits.specs.Budget.{work, bytes}
 use Rattle.limits.proofs.Monad.{Ensures, by_through}

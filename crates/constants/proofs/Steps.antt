@@ -6,7 +6,6 @@ use Rattle.store.specs.declared.Store.{Store}
 use Rattle.store.specs.Store.{with_budget, with_constants, with_keys, with_thresholds}
 use Rattle.store.specs.Calls.{Marks}
 use Rattle.store.proofs.Frame.{Spent, spent_none, spent_more, Charging, Marking}
-use Rattle.constants.specs.Constant.{tables}
 
 -- ---- what a call of a key leaves of the header: another budget, and other counts of constants, keys and thresholds
 

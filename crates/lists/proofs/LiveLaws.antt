@@ -11,7 +11,7 @@ use Rattle.limits.specs.Metered.{pure}
 use Rattle.limits.specs.Meter.{work, holding}
 use Rattle.limits.proofs.Live.{Lives, live_pure, live_test, live_bind, live_then, live_work, live_retain, live_release, live_holding, live_as, live_beside}
 use Rattle.search.proofs.Live.{seek_lives}
-use Rattle.search.specs.Seek.{found, found?}
+use Rattle.search.specs.Seek.{found?}
 use Rattle.lists.specs.Lists.{push, retain_all, take_one, collect, permits_in, permits, same_ids}
 
 -- the entries of a list, if there is one

@@ -28,7 +28,7 @@ use Rattle.lattice.specs.Value.{Value}
 use Rattle.lattice.proofs.LiveLaws.{refine_lives}
 use Rattle.lattice.proofs.Steadiness.{refine_steady}
 use Rattle.rows.specs.Row.{case_cell, low_cell, high_cell, entries_of}
-use Rattle.rows.specs.WellFormed.{Proper, WellFormed}
+use Rattle.rows.specs.WellFormed.{Proper}
 use Rattle.rows.proofs.RowLaws.{size_is, interval_proper, interval_back}
 use Rattle.rows.proofs.Formed.{proper_meet}
 use Rattle.rows.proofs.Good.{Good, refine_good}

@@ -2,24 +2,16 @@
 use Prim.Native.Nat.{ℕ, ◌+◌, ◌*◌, ◌≤◌, ◌<◌}
 use native.Mathlib.Omega.{arith}
 use mathlib.Core.Path.{◌≡◌, refl, ◌∙◌}
-use mathlib.Core.Bool.{Bool, true, false, cond}
 use mathlib.Core.List.{List}
-use lib.Dec.{leb}
 use lib.ListN.{get_or}
-use Rattle.limits.specs.declared.Resource.{Resource}
 use Rattle.limits.specs.declared.Limits.{Limits}
 use Rattle.limits.specs.declared.Stop.{Stop}
 use Rattle.limits.specs.declared.Budget.{Budget}
 use Rattle.limits.specs.declared.Refusal.TheVariants.{Limit}
 use Rattle.limits.specs.Refusal.{told}
 use Rattle.limits.specs.Metered.{Metered}
-use Rattle.limits.specs.declared.Charged.TheVariants.{Paid, Stopped}
-use Rattle.limits.specs.Charge.{charge_of}
-use Rattle.limits.specs.Records.{limit_of, count_of, with_count, with_statistics}
-use Rattle.limits.specs.Budget.{charge}
-use Rattle.limits.specs.Budget as budgets
 use Rattle.limits.proofs.ChargeLaws.{late}
-use Rattle.limits.proofs.Ends.{Ends, completes, stops, ends_through}
+use Rattle.limits.proofs.Ends.{Ends, ends_through}
 use Rattle.store.specs.declared.Phase.{Phase}
 use Rattle.store.specs.declared.Store.{Store}
 use Rattle.store.specs.Store.{with_budget, empty}

@@ -29,7 +29,7 @@ use Rattle.lattice.specs.Value.{Value}
 use Rattle.lattice.specs.Constants.{constant_at}
 use Rattle.lattice.specs.Lattice.{join}
 use Rattle.lattice.proofs.Joins.{joined_list, joined_value, join_is}
-use Rattle.lattice.proofs.LiveLaws.{size, constant_lives, join_lives}
+use Rattle.lattice.proofs.LiveLaws.{constant_lives, join_lives}
 use Rattle.rows.specs.Row.{row, entries_of, value_at, put}
 use Rattle.rows.proofs.RowLaws.{size_is, length_put, put_back, put_other}
 use Rattle.store.specs.declared.Context.{Context}

@@ -1,5 +1,4 @@
 -- `affine::affine_of` meets its contract.
-use borrow.Author.Rules.{rules}
 use mathlib.Core.Path.{refl}
 use Rattle.nodes.specs.declared.Expression.TheVariants.{Constant, Slot, Unary, Absolute, Binary, Unknown}
 use Rattle.affine.proofs.CodeLaws.{affine_is}

@@ -1,5 +1,4 @@
 -- `affine::binary_shape` meets its contract.
-use borrow.Author.Rules.{rules}
 use Rattle.affine.proofs.CodeLaws.{sum_of, difference_shaped}
 use Rattle.affine.proofs.binary_shape.Goals as goal
 

@@ -1,5 +1,4 @@
 -- `affine::difference_shape` meets its contract.
-use borrow.Author.Rules.{rules}
 use Rattle.nodes.specs.declared.Expression.TheVariants.{Constant, Slot, Unary, Absolute, Binary, Unknown}
 use Rattle.affine.proofs.CodeLaws.{difference_of_lem}
 use Rattle.affine.proofs.difference_shape.Goals as goal

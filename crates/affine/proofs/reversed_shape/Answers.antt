@@ -1,5 +1,4 @@
 -- `affine::reversed_shape` meets its contract.
-use borrow.Author.Rules.{rules}
 use Rattle.affine.proofs.CodeLaws.{reversed_slot}
 use Rattle.affine.proofs.reversed_shape.Goals as goal
 

@@ -1,5 +1,4 @@
 -- `affine::sum_shape` meets its contract.
-use borrow.Author.Rules.{rules}
 use Rattle.affine.proofs.CodeLaws.{sum_slot}
 use Rattle.affine.proofs.sum_shape.Goals as goal
 

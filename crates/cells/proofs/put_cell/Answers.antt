@@ -1,7 +1,6 @@
 -- `cells::put_cell` meets its contract.
 use mathlib.Core.Path.{sym}
 use lib.Seq.{set_out}
-use borrow.Author.Rules.{rules}
 use Rattle.cells.proofs.put_cell.Goals as goal
 
 pub returns-then-cells-i : goal.returns-then-cells-i

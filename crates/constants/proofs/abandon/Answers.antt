@@ -1,5 +1,4 @@
 -- `constants::abandon` meets its contract.
-use borrow.Author.Rules.{rules}
 use Rattle.constants.proofs.CodeLaws.{paid_counts, abandon_unpaid, abandon_new}
 use Rattle.constants.proofs.abandon.Goals as goal
 

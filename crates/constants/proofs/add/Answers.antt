@@ -1,6 +1,5 @@
 -- `constants::add` meets its contract.
 use native.Mathlib.Omega.{arith}
-use borrow.Author.Rules.{rules}
 use mir.Facts.{to_z-of_z}
 use Rattle.keys.specs.Key.{key_of}
 use Rattle.constants.proofs.CodeLaws.{add_is, added_keys}

@@ -1,5 +1,4 @@
 -- `constants::classified` meets its contract.
-use borrow.Author.Rules.{rules}
 use mir.Facts.{to_z-of_z}
 use Rattle.constants.proofs.CodeLaws.{classified_name, classified_number}
 use Rattle.constants.proofs.classified.Goals as goal

@@ -1,7 +1,5 @@
 -- `constants::constant` meets its contract.
 use mathlib.Core.Path.{sym, ap, ◌∙◌}
-use borrow.Author.Rules.{rules}
-use borrow.Author.Tests.{not-true, not-false}
 use mir.Facts.{to_z-of_z}
 use Rattle.keys.specs.Key.{key_of}
 use Rattle.store.specs.Answers.{done}

@@ -1,5 +1,4 @@
 -- `constants::constant_number_lem` meets its contract.
-use borrow.Author.Rules.{rules}
 use mir.Facts.{to_z-of_z}
 use Rattle.constants.proofs.constant_number.Goals as goal
 

@@ -1,5 +1,4 @@
 -- `constants::keep` meets its contract.
-use borrow.Author.Rules.{rules}
 use mir.Facts.{to_z-of_z}
 use Rattle.keys.specs.Key.{key_of}
 use Rattle.constants.proofs.CodeLaws.{place_within, keep_halted, keep_found, keep_new, asked_again, same_counts}

@@ -1,5 +1,4 @@
 -- `constants::pay` meets its contract.
-use borrow.Author.Rules.{rules}
 use Rattle.constants.proofs.CodeLaws.{cost_stopped, cost_paid}
 use Rattle.constants.proofs.pay.Goals as goal
 

@@ -1,5 +1,4 @@
 -- `constants::put_bytes` meets its contract.
-use borrow.Author.Rules.{rules}
 use Rattle.constants.proofs.CodeLaws.{put_name_bytes, put_number_bytes}
 use Rattle.constants.proofs.put_bytes.Goals as goal
 

@@ -1,6 +1,5 @@
 -- `constants::put_key` meets its contract.
 use native.Mathlib.Omega.{arith}
-use borrow.Author.Rules.{rules}
 use mir.Facts.{to_z-of_z}
 use Rattle.constants.proofs.CodeLaws.{name_short, put_name_cells, put_number_cells}
 use Rattle.constants.proofs.put_key.Goals as goal

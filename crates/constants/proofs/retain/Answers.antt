@@ -1,5 +1,4 @@
 -- `constants::retain` meets its contract.
-use borrow.Author.Rules.{rules}
 use mir.Facts.{to_z-of_z}
 use Rattle.keys.specs.Key.{key_of}
 use Rattle.constants.proofs.CodeLaws.{retain_kept, retain_new}

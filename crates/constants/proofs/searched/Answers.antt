@@ -1,5 +1,4 @@
 -- `constants::searched` meets its contract.
-use borrow.Author.Rules.{rules}
 use Rattle.constants.proofs.CodeLaws.{searched_is}
 use Rattle.constants.proofs.searched.Goals as goal
 

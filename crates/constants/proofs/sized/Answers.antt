@@ -1,5 +1,4 @@
 -- `constants::sized` meets its contract.
-use borrow.Author.Rules.{rules}
 use Rattle.constants.proofs.CodeLaws.{sized_names, sized_constants, sized_order, sized_is}
 use Rattle.constants.proofs.sized.Goals as goal
 

@@ -1,5 +1,4 @@
 -- `expressions::child_nesting` meets its contract.
-use borrow.Author.Rules.{rules}
 use Rattle.expressions.proofs.CodeLaws.{child_there, child_missing}
 use Rattle.expressions.proofs.child_nesting.Goals as goal
 

@@ -1,5 +1,4 @@
 -- `expressions::deepest` meets its contract.
-use borrow.Author.Rules.{rules}
 use Rattle.expressions.proofs.CodeLaws.{nesting_is, nesting_binary}
 use Rattle.expressions.proofs.deepest.Goals as goal
 

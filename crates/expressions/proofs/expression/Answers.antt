@@ -1,6 +1,4 @@
 -- `expressions::expression` meets its contract.
-use borrow.Author.Tests.{not-true, not-false}
-use borrow.Author.Rules.{rules}
 use Rattle.expressions.proofs.CodeLaws.{went, broke, share_ready, expression_rows, expression_unported, expression_closed, expression_deep, expression_full, expression_work, expression_missing, expression_shared}
 use Rattle.expressions.proofs.expression.Goals as goal
 

@@ -1,7 +1,5 @@
 -- `expressions::first_node` meets its contract.
-use Prim.Native.Nat.{◌-◌}
-use borrow.Author.Rules.{rules}
-use Rattle.expressions.proofs.CodeLaws.{Ahead, ahead_begins, ahead_none, ahead_left, ahead_here, ahead_past}
+use Rattle.expressions.proofs.CodeLaws.{ahead_begins, ahead_none, ahead_left, ahead_here, ahead_past}
 use Rattle.expressions.proofs.first_node.Goals as goal
 use Rattle.expressions.proofs.first_node.Goals.{then-nodes-i+else-same, else-nodes-i}
 

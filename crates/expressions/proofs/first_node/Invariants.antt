@@ -1,7 +1,6 @@
 -- `expressions::first_node` meets its contract.
 use Prim.Native.Nat.{◌-◌}
-use borrow.Author.Rules.{rules}
-use Rattle.expressions.proofs.CodeLaws.{Ahead, ahead_begins, ahead_none, ahead_left, ahead_here, ahead_past}
+use Rattle.expressions.proofs.CodeLaws.{Ahead}
 use Rattle.expressions.proofs.first_node.Given as goal
 
 abbrev pub invariant-loop-i : goal.invariant-loop-i

@@ -1,5 +1,4 @@
 -- `expressions::is_shared` meets its contract.
-use borrow.Author.Rules.{rules}
 use mathlib.Core.Path.{sym, ap}
 use Rattle.expressions.specs.Expression.{shared}
 use Rattle.expressions.proofs.is_shared.Goals as goal

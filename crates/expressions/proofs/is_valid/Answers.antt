@@ -1,6 +1,5 @@
 -- `expressions::is_valid` meets its contract.
 use mathlib.Core.Path.{refl}
-use borrow.Author.Rules.{rules}
 use Rattle.expressions.proofs.CodeLaws.{valid_is, valid_right, valid_left}
 use Rattle.expressions.proofs.is_valid.Goals as goal
 

@@ -1,5 +1,4 @@
 -- `expressions::seek_node` meets its contract.
-use borrow.Author.Rules.{rules}
 use Rattle.expressions.proofs.CodeLaws.{seek_stopped, seek_found, miss_stopped, seek_absent}
 use Rattle.expressions.proofs.seek_node.Goals as goal
 

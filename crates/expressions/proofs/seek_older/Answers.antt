@@ -1,5 +1,4 @@
 -- `expressions::seek_older` meets its contract.
-use borrow.Author.Rules.{rules}
 use Rattle.expressions.proofs.CodeLaws.{older_sought, older_none}
 use Rattle.expressions.proofs.seek_older.Goals as goal
 

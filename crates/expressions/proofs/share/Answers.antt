@@ -1,6 +1,5 @@
 -- `expressions::share` meets its contract.
 use native.Mathlib.Omega.{arith}
-use borrow.Author.Rules.{rules}
 use Rattle.limits.specs.Budget.{links}
 use Rattle.expressions.proofs.CodeLaws.{still_room, went, broke, share_stopped, share_found, share_unpaid, share_new}
 use Rattle.expressions.proofs.share.Goals as goal

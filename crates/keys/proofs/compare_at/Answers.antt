@@ -1,5 +1,4 @@
 -- `keys::compare_at` meets its contract.
-use borrow.Author.Rules.{rules}
 use Rattle.integers.proofs.Bits.{sf32, read₂}
 use Rattle.search.specs.Seek.{compareℤ}
 use Rattle.keys.proofs.CodeLaws.{number_name, number_number, name_name, name_number}

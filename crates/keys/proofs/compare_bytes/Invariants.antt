@@ -1,10 +1,8 @@
 -- `keys::compare_bytes` meets its contract.
 use Prim.Native.Nat.{◌-◌, ◌≤◌}
-use native.Mathlib.Omega.{arith}
 use lib.ListN.{length}
-use borrow.Author.Rules.{rules}
 use Rattle.keys.specs.Key.{compare_bytes}
-use Rattle.keys.proofs.CodeLaws.{Comparing, comparing, bytes_less, bytes_greater, bytes_more, bytes_longer, bytes_shorter, bytes_equal}
+use Rattle.keys.proofs.CodeLaws.{Comparing}
 use Rattle.keys.proofs.compare_bytes.Given as goal
 
 abbrev pub invariant-loop-i : goal.invariant-loop-i

@@ -1,11 +1,7 @@
 -- `keys::insert_cell` meets its contract.
-use Prim.Native.Nat.{◌-◌}
 use native.Mathlib.Omega.{arith}
-use mathlib.Core.Path.{◌≡◌, refl, ◌∙◌}
-use lib.ListN.{length}
-use borrow.Author.Rules.{rules}
-use Rattle.integers.specs.Lists.{inserted}
-use Rattle.integers.proofs.Insertion.{Inserting, inserting, inserting_more, inserting_last}
+use mathlib.Core.Path.{refl, ◌∙◌}
+use Rattle.integers.proofs.Insertion.{inserting, inserting_more, inserting_last}
 use Rattle.keys.proofs.insert_cell.Goals as goal
 
 pub loop-i-init : goal.loop-i-init

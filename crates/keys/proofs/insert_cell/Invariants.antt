@@ -1,11 +1,9 @@
 -- `keys::insert_cell` meets its contract.
 use Prim.Native.Nat.{◌-◌}
-use native.Mathlib.Omega.{arith}
-use mathlib.Core.Path.{◌≡◌, refl, ◌∙◌}
+use mathlib.Core.Path.{◌≡◌}
 use lib.ListN.{length}
-use borrow.Author.Rules.{rules}
 use Rattle.integers.specs.Lists.{inserted}
-use Rattle.integers.proofs.Insertion.{Inserting, inserting, inserting_more, inserting_last}
+use Rattle.integers.proofs.Insertion.{Inserting}
 use Rattle.keys.proofs.insert_cell.Given as goal
 
 abbrev pub invariant-loop-i : goal.invariant-loop-i

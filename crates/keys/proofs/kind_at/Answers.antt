@@ -1,5 +1,4 @@
 -- `keys::kind_at` meets its contract.
-use borrow.Author.Rules.{rules}
 use Rattle.keys.proofs.CodeLaws.{kind_beyond}
 use Rattle.keys.proofs.kind_at.Goals as goal
 

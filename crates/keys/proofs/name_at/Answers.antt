@@ -1,5 +1,4 @@
 -- `keys::name_at` meets its contract.
-use borrow.Author.Rules.{rules}
 use Rattle.keys.proofs.CodeLaws.{name_beyond, name_part}
 use Rattle.keys.proofs.name_at.Goals as goal
 

@@ -1,5 +1,4 @@
 -- `keys::payload_at` meets its contract.
-use borrow.Author.Rules.{rules}
 use Rattle.keys.proofs.CodeLaws.{payload_beyond}
 use Rattle.keys.proofs.payload_at.Goals as goal
 

@@ -1,7 +1,6 @@
 -- `keys::put_byte` meets its contract.
 use mathlib.Core.Path.{sym}
 use lib.Seq.{set_out}
-use borrow.Author.Rules.{rules}
 use Rattle.keys.proofs.put_byte.Goals as goal
 
 pub returns-then-names-i : goal.returns-then-names-i

@@ -1,5 +1,4 @@
 -- `keys::put_cells` meets its contract.
-use borrow.Author.Rules.{rules}
 use Rattle.keys.proofs.CodeLaws.{cells_beyond, cells_put}
 use Rattle.keys.proofs.put_cells.Goals as goal
 

@@ -1,11 +1,7 @@
 -- `keys::put_name` meets its contract.
-use Prim.Native.Nat.{◌-◌, ◌≤◌}
 use native.Mathlib.Omega.{arith}
-use mathlib.Core.Path.{◌≡◌, refl, ◌∙◌}
-use lib.Seq.{sets}
-use lib.ListN.{length}
-use borrow.Author.Rules.{rules}
-use Rattle.integers.proofs.Stores.{Writing, writing_none, writing_more, writing_all}
+use mathlib.Core.Path.{refl, ◌∙◌}
+use Rattle.integers.proofs.Stores.{writing_none, writing_more, writing_all}
 use Rattle.keys.proofs.CodeLaws.{put_beyond}
 use Rattle.keys.proofs.put_name.Goals as goal
 

@@ -1,12 +1,9 @@
 -- `keys::put_name` meets its contract.
 use Prim.Native.Nat.{◌-◌, ◌≤◌}
-use native.Mathlib.Omega.{arith}
-use mathlib.Core.Path.{◌≡◌, refl, ◌∙◌}
+use mathlib.Core.Path.{◌≡◌}
 use lib.Seq.{sets}
 use lib.ListN.{length}
-use borrow.Author.Rules.{rules}
-use Rattle.integers.proofs.Stores.{Writing, writing_none, writing_more, writing_all}
-use Rattle.keys.proofs.CodeLaws.{put_beyond}
+use Rattle.integers.proofs.Stores.{Writing}
 use Rattle.keys.proofs.put_name.Given as goal
 
 abbrev pub invariant-loop-j : goal.invariant-loop-j

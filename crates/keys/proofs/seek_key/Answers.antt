@@ -1,12 +1,7 @@
 -- `keys::seek_key` meets its contract.
-use Prim.Native.Nat.{◌-◌, ◌≤◌}
 use native.Mathlib.Omega.{arith}
-use borrow.Author.Rules.{rules}
-use mir.Syntax.{w32}
-use mir.Val.{to_z}
 use mir.Facts.{to_z-of_z}
-use Rattle.keys.specs.Key.{key_of}
-use Rattle.keys.proofs.CodeLaws.{Searching, searching, same_key, seek_absent, seek_stopped, seek_found, seek_right, seek_left}
+use Rattle.keys.proofs.CodeLaws.{searching, same_key, seek_absent, seek_stopped, seek_found, seek_right, seek_left}
 use Rattle.keys.proofs.seek_key.Goals as goal
 
 pub loop-low-init : goal.loop-low-init

@@ -1,5 +1,4 @@
 -- `lattice::both_permit` meets its contract.
-use borrow.Author.Rules.{rules}
 use Rattle.lattice.proofs.CodeLaws.{both_stopped, both_no, both_yes}
 use Rattle.lattice.proofs.both_permit.Goals as goal
 

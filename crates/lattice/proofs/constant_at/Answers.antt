@@ -1,6 +1,5 @@
 -- `lattice::constant_at` meets its contract.
 use mathlib.Core.Path.{ap, ◌∙◌}
-use borrow.Author.Rules.{rules}
 use Rattle.interval.specs.declared.Constant.TheVariants.{Number}
 use Rattle.integers.proofs.Bits.{back32}
 use Rattle.lattice.proofs.CodeLaws.{at_number, at_name, at_large}

@@ -1,7 +1,6 @@
 -- `lattice::copied_list` meets its contract.
 use mathlib.Core.Path.{refl}
 use lib.ListN.{take}
-use borrow.Author.Rules.{rules}
 use Rattle.limits.proofs.CodeLaws.{work_paid, work_stopped}
 use Rattle.lattice.specs.Value.{value_of}
 use Rattle.lattice.proofs.CodeLaws.{is_made, is_stopped, list_stopped, entries_stopped, list_copied, all_paid, all_stopped}

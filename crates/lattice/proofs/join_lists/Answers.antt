@@ -2,7 +2,6 @@
 use mathlib.Core.Option.{none}
 use mathlib.Core.Path.{ap, ◌∙◌}
 use lib.ListN.{take}
-use borrow.Author.Rules.{rules}
 use Rattle.lists.proofs.CodeLaws.{merged_all, merged_none, merged_stopped}
 use Rattle.lattice.specs.Value.{value}
 use Rattle.lattice.proofs.CodeLaws.{is_made, is_stopped, lists_stopped, lists_lost, lists_kept}

@@ -1,5 +1,4 @@
 -- `lattice::keep_one` meets its contract.
-use borrow.Author.Rules.{rules}
 use Rattle.limits.proofs.CodeLaws.{work_paid, work_stopped}
 use Rattle.lattice.proofs.CodeLaws.{keep_stopped, asked_stopped, keep_refused, keep_outside, keep_inside}
 use Rattle.lattice.proofs.keep_one.Goals as goal

@@ -1,6 +1,5 @@
 -- `lattice::meet_list` meets its contract.
 use lib.ListN.{take}
-use borrow.Author.Rules.{rules}
 use Rattle.lattice.specs.Value.{value_of}
 use Rattle.lattice.proofs.CodeLaws.{is_made, is_stopped, sifted_done, sifted_stopped, reduced_to_lem, reduced_stopped, sift_stopped, reduce_stopped, list_met}
 use Rattle.lattice.proofs.meet_list.Goals as goal

@@ -3,7 +3,6 @@ use mathlib.Core.Option.{some, none}
 use mathlib.Core.Bool.{Bool, cond}
 use mathlib.Core.Path.{ap}
 use lib.ListN.{take}
-use borrow.Author.Rules.{rules}
 use Rattle.lattice.specs.Value.{value_of}
 use Rattle.lattice.proofs.CodeLaws.{is_made, from_source, no_source, no_source_empty}
 use Rattle.lattice.proofs.meet_within.Goals as goal

@@ -1,5 +1,5 @@
 -- `lattice::reduce_to` meets its contract.
-use Prim.Native.Nat.{ℕ, ◌-◌, ◌≤◌}
+use Prim.Native.Nat.{ℕ, ◌-◌}
 use native.Mathlib.Omega.{arith}
 use mathlib.Core.Path.{◌≡◌, sym, ap, ◌∙◌}
 use lib.Seq.{get_or-take}
@@ -9,7 +9,7 @@ use Rattle.interval.specs.Bound as bounds
 use Rattle.interval.specs.Bound.{hull_bound}
 use Rattle.limits.proofs.CodeLaws.{work_paid, work_stopped}
 use Rattle.lattice.specs.Constants.{constant_at}
-use Rattle.lattice.proofs.Sifting.{Hulling, hull_begun, hull_done, hull_stopped, hull_more}
+use Rattle.lattice.proofs.Sifting.{hull_begun, hull_done, hull_stopped, hull_more}
 use Rattle.lattice.proofs.reduce_to.Goals as goal
 
 pub loop-i-init : goal.loop-i-init

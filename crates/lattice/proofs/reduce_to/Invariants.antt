@@ -1,15 +1,8 @@
 -- `lattice::reduce_to` meets its contract.
-use Prim.Native.Nat.{ℕ, ◌-◌, ◌≤◌}
-use native.Mathlib.Omega.{arith}
-use mathlib.Core.Path.{◌≡◌, sym, ap, ◌∙◌}
-use lib.Seq.{get_or-take}
-use lib.ListN.{length, take, get_or, length-take}
-use borrow.Author.Rules.{rules}
-use Rattle.interval.specs.Bound as bounds
-use Rattle.interval.specs.Bound.{hull_bound}
-use Rattle.limits.proofs.CodeLaws.{work_paid, work_stopped}
-use Rattle.lattice.specs.Constants.{constant_at}
-use Rattle.lattice.proofs.Sifting.{Hulling, hull_begun, hull_done, hull_stopped, hull_more}
+use Prim.Native.Nat.{◌-◌, ◌≤◌}
+use mathlib.Core.Path.{◌≡◌}
+use lib.ListN.{length, take}
+use Rattle.lattice.proofs.Sifting.{Hulling}
 use Rattle.lattice.proofs.reduce_to.Given as goal
 
 abbrev pub invariant-loop-i : goal.invariant-loop-i

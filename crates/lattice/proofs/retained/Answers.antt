@@ -1,5 +1,4 @@
 -- `lattice::retained` meets its contract.
-use borrow.Author.Rules.{rules}
 use Rattle.limits.proofs.CodeLaws.{retain_paid, retain_stopped}
 use Rattle.lattice.proofs.CodeLaws.{retained_none, retained_stopped, retained_one}
 use Rattle.lattice.proofs.retained.Goals as goal

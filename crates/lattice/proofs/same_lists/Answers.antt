@@ -3,7 +3,6 @@ use mathlib.Core.Option.{some, none}
 use mathlib.Core.Bool.{Bool, cond}
 use mathlib.Core.Path.{sym, ap, ◌∙◌}
 use lib.ListN.{take}
-use borrow.Author.Rules.{rules}
 use Rattle.lattice.proofs.CodeLaws.{lists_same, lengths_other, left_only, right_only, no_lists}
 use Rattle.lattice.proofs.same_lists.Goals as goal
 

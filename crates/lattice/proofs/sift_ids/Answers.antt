@@ -1,12 +1,9 @@
 -- `lattice::sift_ids` meets its contract.
-use Prim.Native.Nat.{◌-◌, ◌≤◌}
 use native.Mathlib.Omega.{arith}
 use mathlib.Core.Path.{◌≡◌, sym, ◌∙◌}
-use lib.ListN.{length, take, length-take}
+use lib.ListN.{length, length-take}
 use borrow.Author.Rules.{rules}
-use Rattle.limits.specs.Meter.{meter}
-use Rattle.lattice.specs.Value.{value_of}
-use Rattle.lattice.proofs.Sifting.{Sifting, sifting, sift_done, sift_stopped, sift_left, sift_taken, sift_falls, sift_room}
+use Rattle.lattice.proofs.Sifting.{sifting, sift_done, sift_stopped, sift_left, sift_taken, sift_falls, sift_room}
 use Rattle.lattice.proofs.sift_ids.Goals as goal
 
 pub loop-id-init : goal.loop-id-init

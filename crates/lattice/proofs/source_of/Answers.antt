@@ -4,7 +4,6 @@ use mathlib.Core.Option.{some, none}
 use mathlib.Core.Bool.{Bool, cond}
 use mathlib.Core.Path.{ap}
 use lib.ListN.{take}
-use borrow.Author.Rules.{rules}
 use Rattle.lattice.proofs.CodeLaws.{source_left, source_right, source_shorter, source_longer}
 use Rattle.lattice.proofs.source_of.Goals as goal
 

@@ -1,6 +1,5 @@
 -- `lent::lighten` meets its contract: no count of what a release leaves looks at the limits.
 use mathlib.Core.Path.{ap}
-use borrow.Author.Rules.{rules}
 use Rattle.limits.specs.declared.Budget.{Budget}
 use Rattle.lent.specs.Lent.{budget_of}
 use Rattle.lent.proofs.lighten.Goals as goal

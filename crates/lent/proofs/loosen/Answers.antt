@@ -1,6 +1,5 @@
 -- `lent::loosen` meets its contract: no count of what a widening leaves looks at the limits.
 use mathlib.Core.Path.{ap}
-use borrow.Author.Rules.{rules}
 use Rattle.limits.specs.declared.Budget.{Budget}
 use Rattle.lent.specs.Lent.{budget_of}
 use Rattle.lent.proofs.loosen.Goals as goal

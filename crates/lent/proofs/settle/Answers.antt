@@ -1,5 +1,4 @@
 -- `lent::settle` meets its contract.
-use borrow.Author.Rules.{rules}
 use Rattle.limits.proofs.CodeLaws.{paid, broke}
 use Rattle.lent.proofs.LentLaws.{beside_charge}
 use Rattle.lent.proofs.settle.Goals as goal

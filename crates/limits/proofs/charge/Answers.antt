@@ -1,6 +1,5 @@
 -- `limits::charge` meets its contract.
 use native.Mathlib.Omega.{arith}
-use borrow.Author.Rules.{rules}
 use Rattle.limits.proofs.CodeLaws.{charge_over, charge_within}
 use Rattle.limits.proofs.charge.Goals as goal
 

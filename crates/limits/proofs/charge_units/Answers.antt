@@ -1,6 +1,5 @@
 -- `limits::charge_units` meets its contract.
 use native.Mathlib.Omega.{arith}
-use borrow.Author.Rules.{rules}
 use Prim.Native.Nat.{◌-◌}
 use Rattle.limits.proofs.Units.{units_none, units_refused, units_part, units_fit}
 use Rattle.limits.proofs.charge_units.Goals as goal

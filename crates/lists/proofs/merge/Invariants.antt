@@ -1,10 +1,8 @@
 -- `lists::merge` meets its contract.
 use Prim.Native.Nat.{◌+◌, ◌-◌}
-use native.Mathlib.Omega.{arith}
 use lib.ListN.{length, take}
-use borrow.Author.Rules.{rules}
 use Rattle.limits.specs.Meter.{meter}
-use Rattle.lists.proofs.Merging.{Merging, facts, merging, taken_fits, merge_all, merge_stopped, merge_none, merge_more}
+use Rattle.lists.proofs.Merging.{Merging}
 use Rattle.lists.proofs.merge.Given as goal
 
 abbrev pub invariant-loop-id : goal.invariant-loop-id

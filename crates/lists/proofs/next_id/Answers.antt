@@ -1,6 +1,5 @@
 -- `lists::next_id` meets its contract.
 use native.Mathlib.Omega.{arith}
-use borrow.Author.Rules.{rules}
 use Rattle.lists.proofs.CodeLaws.{next_is, next_left, next_right, next_both}
 use Rattle.lists.proofs.next_id.Goals as goal
 

@@ -1,15 +1,13 @@
 -- `lists::permits_id` meets its contract.
-use Prim.Native.Nat.{ℕ, ◌+◌, ◌-◌, ◌/◌, ◌≤◌}
+use Prim.Native.Nat.{◌+◌, ◌-◌, ◌/◌}
 use native.Mathlib.Omega.{arith}
 use mathlib.Core.Path.{◌≡◌, refl}
 use lib.Seq.{get_or-take}
 use lib.ListN.{length, take, get_or, length-take}
 use borrow.Author.Rules.{rules}
-use Rattle.limits.specs.Meter.{meter}
-use Rattle.search.specs.Seek.{compareℕ}
 use Rattle.limits.proofs.CodeLaws.{work_paid, work_stopped}
 use Rattle.search.proofs.Turns.{At, at_end, at_stop, at_found, at_right, at_left, is_less, is_greater, is_equal}
-use Rattle.lists.proofs.CodeLaws.{sought, permits_found, permits_absent, permits_stopped}
+use Rattle.lists.proofs.CodeLaws.{permits_found, permits_absent, permits_stopped}
 use Rattle.lists.proofs.permits_id.Goals as goal
 
 pub loop-low-init : goal.loop-low-init

@@ -1,15 +1,10 @@
 -- `lists::permits_id` meets its contract.
-use Prim.Native.Nat.{ℕ, ◌+◌, ◌-◌, ◌/◌, ◌≤◌}
-use native.Mathlib.Omega.{arith}
-use mathlib.Core.Path.{◌≡◌, refl}
-use lib.Seq.{get_or-take}
-use lib.ListN.{length, take, get_or, length-take}
-use borrow.Author.Rules.{rules}
+use Prim.Native.Nat.{ℕ, ◌-◌, ◌≤◌}
+use lib.ListN.{length, take, get_or}
 use Rattle.limits.specs.Meter.{meter}
 use Rattle.search.specs.Seek.{compareℕ}
-use Rattle.limits.proofs.CodeLaws.{work_paid, work_stopped}
-use Rattle.search.proofs.Turns.{At, at_end, at_stop, at_found, at_right, at_left, is_less, is_greater, is_equal}
-use Rattle.lists.proofs.CodeLaws.{sought, permits_found, permits_absent, permits_stopped}
+use Rattle.search.proofs.Turns.{At}
+use Rattle.lists.proofs.CodeLaws.{sought}
 use Rattle.lists.proofs.permits_id.Given as goal
 
 abbrev pub invariant-loop-low : goal.invariant-loop-low

@@ -1,8 +1,6 @@
 -- `lists::retain_all` meets its contract.
 use Prim.Native.Nat.{◌-◌}
-use native.Mathlib.Omega.{arith}
-use borrow.Author.Rules.{rules}
-use Rattle.lists.proofs.CodeLaws.{Retaining, retaining, retained_all, retained_stopped, retained_more}
+use Rattle.lists.proofs.CodeLaws.{Retaining}
 use Rattle.lists.proofs.retain_all.Given as goal
 
 abbrev pub invariant-loop-held : goal.invariant-loop-held

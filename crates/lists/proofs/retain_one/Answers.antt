@@ -1,5 +1,4 @@
 -- `lists::retain_one` meets its contract.
-use borrow.Author.Rules.{rules}
 use Rattle.lists.proofs.CodeLaws.{pushes_taken, pushes_stopped}
 use Rattle.lists.proofs.retain_one.Goals as goal
 

@@ -1,9 +1,6 @@
 -- `lists::same_ids` meets its contract.
-use Prim.Native.Nat.{◌-◌}
 use mathlib.Core.Path.{sym, ◌∙◌}
-use lib.ListN.{length, take}
-use borrow.Author.Rules.{rules}
-use Rattle.lists.proofs.CodeLaws.{Comparing, comparing, left_ends, right_ends, compare_stopped, compare_other, compare_more, compare_falls}
+use Rattle.lists.proofs.CodeLaws.{comparing, left_ends, right_ends, compare_stopped, compare_other, compare_more, compare_falls}
 use Rattle.lists.proofs.same_ids.Goals as goal
 
 pub loop-x-init : goal.loop-x-init

@@ -1,9 +1,7 @@
 -- `lists::same_ids` meets its contract.
 use Prim.Native.Nat.{◌-◌}
-use mathlib.Core.Path.{sym, ◌∙◌}
 use lib.ListN.{length, take}
-use borrow.Author.Rules.{rules}
-use Rattle.lists.proofs.CodeLaws.{Comparing, comparing, left_ends, right_ends, compare_stopped, compare_other, compare_more, compare_falls}
+use Rattle.lists.proofs.CodeLaws.{Comparing}
 use Rattle.lists.proofs.same_ids.Given as goal
 
 abbrev pub invariant-loop-x : goal.invariant-loop-x

@@ -1,6 +1,5 @@
 -- `lists::take_one` meets its contract.
 use native.Mathlib.Omega.{arith}
-use borrow.Author.Rules.{rules}
 use Rattle.lists.proofs.CodeLaws.{take_stopped, take_wide, take_pushed}
 use Rattle.lists.proofs.take_one.Goals as goal
 

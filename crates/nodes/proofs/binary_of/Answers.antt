@@ -1,5 +1,4 @@
 -- `nodes::binary_of` meets its contract.
-use borrow.Author.Rules.{rules}
 use Rattle.nodes.proofs.CodeLaws.{no_binary}
 use Rattle.nodes.proofs.binary_of.Goals as goal
 

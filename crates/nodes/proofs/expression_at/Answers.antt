@@ -1,5 +1,4 @@
 -- `nodes::expression_at` meets its contract.
-use borrow.Author.Rules.{rules}
 use Rattle.nodes.proofs.CodeLaws.{expression_read}
 use Rattle.nodes.proofs.expression_at.Goals as goal
 

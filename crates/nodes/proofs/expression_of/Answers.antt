@@ -1,5 +1,4 @@
 -- `nodes::expression_of` meets its contract.
-use borrow.Author.Rules.{rules}
 use Rattle.nodes.proofs.CodeLaws.{as_constant, as_slot, as_unknown, as_unary, as_absolute, as_binary, left_above, right_above, no_kind}
 use Rattle.nodes.proofs.expression_of.Goals as goal
 

@@ -1,5 +1,4 @@
 -- `nodes::nesting_at` meets its contract.
-use borrow.Author.Rules.{rules}
 use Rattle.nodes.proofs.CodeLaws.{nesting_read}
 use Rattle.nodes.proofs.nesting_at.Goals as goal
 

@@ -1,6 +1,5 @@
 -- `nodes::node_at` meets its contract.
 use mathlib.Core.Path.{refl}
-use borrow.Author.Rules.{rules}
 use Rattle.nodes.proofs.CodeLaws.{node_read}
 use Rattle.nodes.proofs.node_at.Goals as goal
 

@@ -1,5 +1,4 @@
 -- `nodes::put_node` meets its contract.
-use borrow.Author.Rules.{rules}
 use Rattle.nodes.proofs.CodeLaws.{node_put}
 use Rattle.nodes.proofs.put_node.Goals as goal
 

@@ -1,7 +1,6 @@
 -- `nodes::put_word` meets its contract.
 use mathlib.Core.Path.{sym}
 use lib.Seq.{set_out}
-use borrow.Author.Rules.{rules}
 use Rattle.nodes.proofs.put_word.Goals as goal
 
 pub returns-then-cells-i : goal.returns-then-cells-i

@@ -1,5 +1,4 @@
 -- `nodes::unary_of` meets its contract.
-use borrow.Author.Rules.{rules}
 use Rattle.nodes.proofs.CodeLaws.{no_unary}
 use Rattle.nodes.proofs.unary_of.Goals as goal
 

@@ -1,5 +1,4 @@
 -- `nodes::widening_of` meets its contract.
-use borrow.Author.Rules.{rules}
 use Rattle.nodes.proofs.CodeLaws.{no_widening}
 use Rattle.nodes.proofs.widening_of.Goals as goal
 

@@ -1,5 +1,4 @@
 -- `operators::arithmetic` meets its contract.
-use borrow.Author.Rules.{rules}
 use Rattle.operators.proofs.CodeLaws.{sum_is, difference_is, product_is}
 use Rattle.operators.proofs.arithmetic.Goals as goal
 

@@ -1,5 +1,4 @@
 -- `operators::binary` meets its contract.
-use borrow.Author.Rules.{rules}
 use Rattle.operators.proofs.CodeLaws.{binary_is}
 use Rattle.operators.proofs.binary.Goals as goal
 

@@ -1,5 +1,4 @@
 -- `operators::is_covered` meets its contract.
-use borrow.Author.Rules.{rules}
 use Rattle.operators.proofs.CodeLaws.{covered_left, covered_right}
 use Rattle.operators.proofs.is_covered.Goals as goal
 

@@ -1,5 +1,4 @@
 -- `operators::is_literal` meets its contract.
-use borrow.Author.Rules.{rules}
 use Rattle.operators.proofs.CodeLaws.{no_literal, some_literal}
 use Rattle.operators.proofs.is_literal.Goals as goal
 

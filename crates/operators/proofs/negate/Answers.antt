@@ -1,5 +1,4 @@
 -- `operators::negate` meets its contract.
-use borrow.Author.Rules.{rules}
 use Rattle.operators.proofs.CodeLaws.{negated_within, negated_declined}
 use Rattle.operators.proofs.negate.Goals as goal
 

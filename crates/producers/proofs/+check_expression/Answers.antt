@@ -2,9 +2,7 @@
 use Rattle.nodes.proofs.Descent.{unary_smaller, absolute_smaller, binary_smaller}
 use Rattle.producers.proofs.CodeLaws.{check_stopped, check_missing, check_constant, check_slot, check_unary, check_absolute, check_right, check_both, check_unknown}
 use Rattle.producers.specs.Producer.{scope}
-use borrow.Author.Rules.{rules}
 use native.Mathlib.Omega.{arith}
-use Prim.Native.Nat.{ℕ, ◌<◌}
 use Rattle.producers.proofs.+check_expression.Goals as goal
 
 pub returns-then-expressions-id : goal.returns-then-expressions-id

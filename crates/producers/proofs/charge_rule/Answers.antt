@@ -1,6 +1,5 @@
 -- `producers::charge_rule` meets its contract.
 use Rattle.producers.proofs.CodeLaws.{lengthy, cost_first, cost_second}
-use borrow.Author.Rules.{rules}
 use native.Mathlib.Omega.{arith}
 use Rattle.producers.proofs.charge_rule.Goals as goal
 

@@ -2,7 +2,6 @@
 use Rattle.limits.specs.declared.Refusal.TheVariants.{Missing}
 use Rattle.producers.specs.Producer.{scope, slot_in, check_expression, check_pair}
 use Rattle.producers.proofs.CodeLaws.{binding_is, inside, outside, before_slot, then_slot, checks_asked}
-use borrow.Author.Rules.{rules}
 use Rattle.producers.proofs.check_binding.Goals as goal
 
 pub returns-then-arguments-argument : goal.returns-then-arguments-argument

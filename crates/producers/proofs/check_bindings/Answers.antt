@@ -1,10 +1,9 @@
 -- `producers::check_bindings` meets its contract.
-use Rattle.producers.proofs.CodeLaws.{Checking, checking_none, checking_stopped, checking_refused, checking_more, checking_all}
-use Rattle.producers.specs.Producer.{scope, each, check_binding}
+use Rattle.producers.proofs.CodeLaws.{checking_none, checking_stopped, checking_refused, checking_more, checking_all}
+use Rattle.producers.specs.Producer.{scope, check_binding}
 use Rattle.rules.specs.declared.Binding.TheVariants.{Positive}
-use lib.ListN.{length, take}
+use lib.ListN.{length}
 use mathlib.Core.Path.{◌≡◌}
-use Prim.Native.Nat.{◌-◌, ◌≤◌}
 use borrow.Author.Rules.{rules}
 use native.Mathlib.Omega.{arith}
 use Rattle.producers.proofs.check_bindings.Goals as goal

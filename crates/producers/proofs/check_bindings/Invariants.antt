@@ -1,12 +1,8 @@
 -- `producers::check_bindings` meets its contract.
-use Rattle.producers.proofs.CodeLaws.{Checking, checking_none, checking_stopped, checking_refused, checking_more, checking_all}
+use Rattle.producers.proofs.CodeLaws.{Checking}
 use Rattle.producers.specs.Producer.{scope, each, check_binding}
-use Rattle.rules.specs.declared.Binding.TheVariants.{Positive}
-use lib.ListN.{length, take}
-use mathlib.Core.Path.{◌≡◌}
+use lib.ListN.{take}
 use Prim.Native.Nat.{◌-◌, ◌≤◌}
-use borrow.Author.Rules.{rules}
-use native.Mathlib.Omega.{arith}
 use Rattle.producers.proofs.check_bindings.Given as goal
 
 abbrev pub invariant-loop-i : goal.invariant-loop-i

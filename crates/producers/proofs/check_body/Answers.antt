@@ -1,7 +1,6 @@
 -- `producers::check_body` meets its contract.
 use Rattle.producers.proofs.CodeLaws.{body_first, body_both}
 use Rattle.producers.specs.Producer.{scope}
-use borrow.Author.Rules.{rules}
 use Rattle.producers.proofs.check_body.Goals as goal
 
 pub check_bindings-requires : goal.check_bindings-requires

@@ -2,7 +2,6 @@
 use Rattle.limits.specs.declared.Refusal.TheVariants.{MissingSlot}
 use Rattle.producers.specs.Producer.{scope, check_pair}
 use Rattle.producers.proofs.CodeLaws.{guard_is, inside, outside}
-use borrow.Author.Rules.{rules}
 use Rattle.producers.proofs.check_guard.Goals as goal
 
 pub returns-then-slots-slot : goal.returns-then-slots-slot

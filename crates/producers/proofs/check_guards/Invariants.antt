@@ -1,13 +1,8 @@
 -- `producers::check_guards` meets its contract.
-use Rattle.producers.proofs.CodeLaws.{Checking, checking_none, checking_stopped, checking_refused, checking_more, checking_all}
+use Rattle.producers.proofs.CodeLaws.{Checking}
 use Rattle.producers.specs.Producer.{scope, each, check_guard}
-use Rattle.rules.specs.declared.Relation.TheVariants.{Lt}
-use Rattle.rules.specs.declared.Guard.TheVariants.{Compare}
-use lib.ListN.{length, take}
-use mathlib.Core.Path.{◌≡◌}
+use lib.ListN.{take}
 use Prim.Native.Nat.{◌-◌, ◌≤◌}
-use borrow.Author.Rules.{rules}
-use native.Mathlib.Omega.{arith}
 use Rattle.producers.proofs.check_guards.Given as goal
 
 abbrev pub invariant-loop-i : goal.invariant-loop-i

@@ -1,7 +1,6 @@
 -- `producers::check_head` meets its contract.
 use Rattle.producers.specs.Producer.{scope, check_value}
 use Rattle.producers.proofs.CodeLaws.{checked_on, checked_stop, checking_kept, head_on, head_stop}
-use borrow.Author.Rules.{rules}
 use Rattle.producers.proofs.check_head.Goals as goal
 
 pub provenance-requires : goal.provenance-requires

@@ -1,9 +1,8 @@
 -- `producers::check_heads` meets its contract.
-use Rattle.producers.proofs.CodeLaws.{Heading, heading_none, heading_room, heading_stop, heading_more, heading_all}
-use Rattle.producers.specs.Producer.{scope, check_heads}
+use Rattle.producers.proofs.CodeLaws.{heading_none, heading_room, heading_stop, heading_more, heading_all}
+use Rattle.producers.specs.Producer.{scope}
 use lib.ListN.{length, take}
 use mathlib.Core.Path.{◌≡◌, refl, ◌∙◌}
-use Prim.Native.Nat.{◌-◌, ◌≤◌}
 use borrow.Author.Rules.{rules}
 use native.Mathlib.Omega.{arith}
 use Rattle.producers.proofs.check_heads.Goals as goal

@@ -1,11 +1,9 @@
 -- `producers::check_heads` meets its contract.
-use Rattle.producers.proofs.CodeLaws.{Heading, heading_none, heading_room, heading_stop, heading_more, heading_all}
+use Rattle.producers.proofs.CodeLaws.{Heading}
 use Rattle.producers.specs.Producer.{scope, check_heads}
 use lib.ListN.{length, take}
-use mathlib.Core.Path.{◌≡◌, refl, ◌∙◌}
+use mathlib.Core.Path.{◌≡◌}
 use Prim.Native.Nat.{◌-◌, ◌≤◌}
-use borrow.Author.Rules.{rules}
-use native.Mathlib.Omega.{arith}
 use Rattle.producers.proofs.check_heads.Given as goal
 
 abbrev pub invariant-loop-i : goal.invariant-loop-i

@@ -1,7 +1,6 @@
 -- `producers::check_pair` meets its contract.
 use Rattle.producers.specs.Producer.{scope}
 use Rattle.producers.proofs.CodeLaws.{pair_first, pair_both}
-use borrow.Author.Rules.{rules}
 use Rattle.producers.proofs.check_pair.Goals as goal
 
 pub returns-in-Refused : goal.returns-in-Refused

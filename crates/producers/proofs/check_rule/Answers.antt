@@ -1,7 +1,6 @@
 -- `producers::check_rule` meets its contract.
 use Rattle.producers.proofs.CodeLaws.{lengthy, room_fewer, checked_on, checked_stop, checking_kept, rule_body, rule_heads}
 use Rattle.producers.specs.Producer.{scope_of, check_body}
-use borrow.Author.Rules.{rules}
 use Rattle.producers.proofs.check_rule.Goals as goal
 
 pub check_body-checked-requires : goal.check_body-checked-requires

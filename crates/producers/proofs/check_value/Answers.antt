@@ -1,7 +1,6 @@
 -- `producers::check_value` meets its contract.
 use Rattle.producers.specs.Producer.{scope}
 use Rattle.producers.proofs.CodeLaws.{value_stopped, value_checked}
-use borrow.Author.Rules.{rules}
 use Rattle.producers.proofs.check_value.Goals as goal
 
 pub returns-in-Stopped : goal.returns-in-Stopped

@@ -1,6 +1,5 @@
 -- `producers::room` meets its contract.
 use Rattle.producers.proofs.CodeLaws.{room_rules, room_expressions, room_positions, room_is}
-use borrow.Author.Rules.{rules}
 use Rattle.producers.proofs.room.Goals as goal
 
 pub returns-then-counts-ge256 : goal.returns-then-counts-ge256

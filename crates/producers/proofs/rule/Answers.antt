@@ -4,9 +4,7 @@ use Rattle.producers.proofs.CodeLaws.{lengthy, roomy, rule_kept, call_size, call
 use Rattle.producers.specs.Producer.{cost}
 use Rattle.store.proofs.CodeLaws.{charged_counts, charged_context}
 use Rattle.store.specs.Answers.{done}
-use borrow.Author.Tests.{not-true, not-false}
 use mathlib.Core.Path.{sym, ap, ◌∙◌}
-use borrow.Author.Rules.{rules}
 use Rattle.producers.proofs.rule.Goals as goal
 
 pub returns-then-not-sized : goal.returns-then-not-sized

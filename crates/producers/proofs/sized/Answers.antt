@@ -1,6 +1,5 @@
 -- `producers::sized` meets its contract.
 use Rattle.producers.proofs.CodeLaws.{sized_nodes, sized_rules, sized_is}
-use borrow.Author.Rules.{rules}
 use Rattle.producers.proofs.sized.Goals as goal
 
 pub returns-then-nodes : goal.returns-then-nodes

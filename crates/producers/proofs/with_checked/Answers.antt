@@ -1,6 +1,5 @@
 -- `producers::with_checked` meets its contract.
 use Rattle.producers.proofs.CodeLaws.{in_passed, in_refused}
-use borrow.Author.Rules.{rules}
 use Rattle.producers.proofs.with_checked.Goals as goal
 
 pub returns-in-Refused : goal.returns-in-Refused

@@ -1,5 +1,4 @@
 -- `provenance::is_recordable` meets its contract.
-use borrow.Author.Rules.{rules}
 use Rattle.provenance.proofs.CodeLaws.{some_recordable}
 use Rattle.provenance.proofs.is_recordable.Goals as goal
 

@@ -1,7 +1,6 @@
 -- `provenance::provenance` meets its contract.
 use native.Mathlib.Omega.{arith}
 use mathlib.Core.Path.{sym, ap, ◌∙◌}
-use borrow.Author.Rules.{rules}
 use Rattle.limits.specs.Budget.{links}
 use Rattle.store.specs.Answers.{done}
 use Rattle.store.proofs.CodeLaws.{charged_counts}

@@ -1,5 +1,4 @@
 -- `provenance::put_record` meets its contract.
-use borrow.Author.Rules.{rules}
 use Rattle.provenance.proofs.CodeLaws.{two_cells}
 use Rattle.provenance.proofs.put_record.Goals as goal
 

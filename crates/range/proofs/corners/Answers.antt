@@ -1,6 +1,5 @@
 -- `range::corners` meets its contract.
 use lib.IntN.{◌*ℤ◌}
-use borrow.Author.Rules.{rules}
 use Rattle.integers.specs.Order.{min_z, max_z}
 use Rattle.integers.proofs.Bits.{read₂, sf64}
 use Rattle.range.specs.Range.{checked_of}

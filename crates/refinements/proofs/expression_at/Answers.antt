@@ -1,5 +1,4 @@
 -- `refinements::expression_at` meets its contract.
-use borrow.Author.Rules.{rules}
 use Rattle.refinements.proofs.CodeLaws.{expression_read}
 use Rattle.refinements.proofs.expression_at.Goals as goal
 

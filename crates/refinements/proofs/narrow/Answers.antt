@@ -1,5 +1,4 @@
 -- `refinements::narrow` meets its contract.
-use borrow.Author.Rules.{rules}
 use Rattle.lattice.specs.Value.{value_of}
 use Rattle.refinements.proofs.CodeLaws.{narrow_yes, narrow_no}
 use Rattle.refinements.proofs.narrow.Goals as goal

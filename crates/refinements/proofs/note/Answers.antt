@@ -1,6 +1,5 @@
 -- `refinements::note` meets its contract.
 use native.Mathlib.Omega.{arith}
-use borrow.Author.Rules.{rules}
 use Rattle.refinements.proofs.CodeLaws.{note_old, note_new, note_stopped, note_full}
 use Rattle.refinements.proofs.note.Goals as goal
 

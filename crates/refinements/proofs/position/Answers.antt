@@ -1,9 +1,6 @@
 -- `refinements::position` meets its contract.
-use Prim.Native.Nat.{◌-◌}
 use native.Mathlib.Omega.{arith}
-use borrow.Author.Rules.{rules}
-use Rattle.refinements.specs.Refinement.{refinement_at, refinements_of, position}
-use Rattle.refinements.proofs.CodeLaws.{Seeking, seek_begun, seek_stops, seek_found, seek_more, seek_ends}
+use Rattle.refinements.proofs.CodeLaws.{seek_begun, seek_stops, seek_found, seek_more, seek_ends}
 use Rattle.refinements.proofs.position.Goals as goal
 
 pub loop-k-init : goal.loop-k-init

@@ -1,9 +1,7 @@
 -- `refinements::position` meets its contract.
 use Prim.Native.Nat.{◌-◌}
-use native.Mathlib.Omega.{arith}
-use borrow.Author.Rules.{rules}
 use Rattle.refinements.specs.Refinement.{refinement_at, refinements_of, position}
-use Rattle.refinements.proofs.CodeLaws.{Seeking, seek_begun, seek_stops, seek_found, seek_more, seek_ends}
+use Rattle.refinements.proofs.CodeLaws.{Seeking}
 use Rattle.refinements.proofs.position.Given as goal
 
 abbrev pub invariant-loop-k : goal.invariant-loop-k

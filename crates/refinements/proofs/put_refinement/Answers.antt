@@ -1,6 +1,5 @@
 -- `refinements::put_refinement` meets its contract.
 use mathlib.Core.Path.{refl}
-use borrow.Author.Rules.{rules}
 use Rattle.refinements.proofs.CodeLaws.{refinement_put}
 use Rattle.refinements.proofs.put_refinement.Goals as goal
 

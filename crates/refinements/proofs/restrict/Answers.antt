@@ -1,5 +1,4 @@
 -- `refinements::restrict` meets its contract.
-use borrow.Author.Rules.{rules}
 use Rattle.refinements.proofs.CodeLaws.{restrict_stops, restrict_found, restrict_ends}
 use Rattle.refinements.specs.Refinement.{refinement_at}
 use Rattle.lattice.specs.Value.{value_of}

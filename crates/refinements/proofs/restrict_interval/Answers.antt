@@ -1,5 +1,4 @@
 -- `refinements::restrict_interval` meets its contract.
-use borrow.Author.Rules.{rules}
 use Rattle.refinements.proofs.CodeLaws.{interval_stopped, interval_free, interval_refused, interval_met}
 use Rattle.refinements.specs.Refinement.{refinement_at}
 use Rattle.refinements.proofs.restrict_interval.Goals as goal

@@ -1,5 +1,4 @@
 -- `refinements::restriction_at` meets its contract.
-use borrow.Author.Rules.{rules}
 use Rattle.refinements.proofs.CodeLaws.{restriction_read}
 use Rattle.refinements.proofs.restriction_at.Goals as goal
 

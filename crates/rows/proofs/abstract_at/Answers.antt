@@ -1,5 +1,4 @@
 -- `rows::abstract_at` meets its contract.
-use borrow.Author.Rules.{rules}
 use borrow.Author.Tests.{eq-eqb}
 use mathlib.Core.Path.{ap}
 use mathlib.Core.Bool.{not}

@@ -1,5 +1,4 @@
 -- `rows::bound_at` meets its contract.
-use borrow.Author.Rules.{rules}
 use Rattle.rows.proofs.CodeLaws.{bound_read_lem}
 use Rattle.rows.proofs.bound_at.Goals as goal
 

@@ -1,5 +1,4 @@
 -- `rows::copied_at` meets its contract.
-use borrow.Author.Rules.{rules}
 use Rattle.rows.proofs.CodeLaws.{row_unlisted, row_listed}
 use Rattle.lattice.proofs.CodeLaws.{copied_stopped, copied_on, copied_listed, copied_unlisted, list_stopped, entries_stopped, list_copied, all_paid, all_stopped}
 use Rattle.rows.specs.Row.{value_at}

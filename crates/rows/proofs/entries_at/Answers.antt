@@ -1,5 +1,4 @@
 -- `rows::entries_at` meets its contract.
-use borrow.Author.Rules.{rules}
 use native.Mathlib.Omega.{arith}
 use Rattle.rows.proofs.CodeLaws.{entries_none, entries_some}
 use Rattle.rows.proofs.entries_at.Goals as goal

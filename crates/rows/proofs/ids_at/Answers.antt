@@ -1,10 +1,9 @@
 -- `rows::ids_at` meets its contract.
-use Prim.Native.Nat.{◌+◌, ◌-◌, ◌≤◌}
 use native.Mathlib.Omega.{arith}
-use mathlib.Core.Path.{◌≡◌, ap}
-use lib.ListN.{length, get_or, length-set}
+use mathlib.Core.Path.{ap}
+use lib.ListN.{length-set}
 use borrow.Author.Rules.{rules}
-use Rattle.integers.proofs.Stores.{Filled, filled_none, filled_more}
+use Rattle.integers.proofs.Stores.{filled_none, filled_more}
 use Rattle.rows.specs.Row.{id_of}
 use Rattle.rows.proofs.CodeLaws.{ids_read}
 use Rattle.rows.proofs.ids_at.Goals as goal

@@ -1,12 +1,9 @@
 -- `rows::ids_at` meets its contract.
 use Prim.Native.Nat.{◌+◌, ◌-◌, ◌≤◌}
-use native.Mathlib.Omega.{arith}
-use mathlib.Core.Path.{◌≡◌, ap}
-use lib.ListN.{length, get_or, length-set}
-use borrow.Author.Rules.{rules}
-use Rattle.integers.proofs.Stores.{Filled, filled_none, filled_more}
+use mathlib.Core.Path.{◌≡◌}
+use lib.ListN.{length, get_or}
+use Rattle.integers.proofs.Stores.{Filled}
 use Rattle.rows.specs.Row.{id_of}
-use Rattle.rows.proofs.CodeLaws.{ids_read}
 use Rattle.rows.proofs.ids_at.Given as goal
 
 abbrev pub invariant-loop-j : goal.invariant-loop-j

@@ -1,5 +1,4 @@
 -- `rows::interval_of` meets its contract.
-use borrow.Author.Rules.{rules}
 use Rattle.interval.specs.Interval.{ascending_of}
 use Rattle.integers.proofs.Bits.{read₂, sf32}
 use Rattle.cells.specs.Cells.{of_cell}

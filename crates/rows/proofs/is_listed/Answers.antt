@@ -1,5 +1,4 @@
 -- `rows::is_listed` meets its contract.
-use borrow.Author.Rules.{rules}
 use Rattle.rows.proofs.CodeLaws.{listed_read}
 use Rattle.rows.proofs.is_listed.Goals as goal
 

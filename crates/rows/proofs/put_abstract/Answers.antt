@@ -1,5 +1,4 @@
 -- `rows::put_abstract` meets its contract.
-use borrow.Author.Rules.{rules}
 use Rattle.rows.proofs.CodeLaws.{row_put}
 use Rattle.rows.proofs.put_abstract.Goals as goal
 

@@ -1,5 +1,4 @@
 -- `rows::put_bound` meets its contract.
-use borrow.Author.Rules.{rules}
 use Rattle.rows.proofs.CodeLaws.{bound_put}
 use Rattle.rows.proofs.put_bound.Goals as goal
 

@@ -1,12 +1,10 @@
 -- `rows::put_ids` meets its contract.
-use Prim.Native.Nat.{◌+◌, ◌-◌, ◌≤◌}
+use Prim.Native.Nat.{◌-◌}
 use native.Mathlib.Omega.{arith}
-use mathlib.Core.Path.{◌≡◌, refl, ap, ◌∙◌}
-use lib.ListN.{length, take, length-set}
-use lib.Seq.{sets}
-use borrow.Author.Rules.{rules}
-use Rattle.integers.proofs.Stores.{Writing, writing_none}
-use Rattle.rows.specs.Row.{row, padded}
+use mathlib.Core.Path.{refl, ap, ◌∙◌}
+use lib.ListN.{length, length-set}
+use Rattle.integers.proofs.Stores.{writing_none}
+use Rattle.rows.specs.Row.{row}
 use Rattle.rows.proofs.CodeLaws.{id_put, ids_put}
 use Rattle.rows.proofs.put_ids.Goals as goal
 

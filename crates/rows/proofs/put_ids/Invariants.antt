@@ -1,13 +1,10 @@
 -- `rows::put_ids` meets its contract.
 use Prim.Native.Nat.{◌+◌, ◌-◌, ◌≤◌}
-use native.Mathlib.Omega.{arith}
-use mathlib.Core.Path.{◌≡◌, refl, ap, ◌∙◌}
-use lib.ListN.{length, take, length-set}
+use mathlib.Core.Path.{◌≡◌}
+use lib.ListN.{length, take}
 use lib.Seq.{sets}
-use borrow.Author.Rules.{rules}
-use Rattle.integers.proofs.Stores.{Writing, writing_none}
+use Rattle.integers.proofs.Stores.{Writing}
 use Rattle.rows.specs.Row.{row, padded}
-use Rattle.rows.proofs.CodeLaws.{id_put, ids_put}
 use Rattle.rows.proofs.put_ids.Given as goal
 
 abbrev pub invariant-loop-j : goal.invariant-loop-j

@@ -1,5 +1,4 @@
 -- `rules::binding_at` meets its contract.
-use borrow.Author.Rules.{rules}
 use Rattle.rules.proofs.CodeLaws.{binding_read}
 use Rattle.rules.proofs.binding_at.Goals as goal
 

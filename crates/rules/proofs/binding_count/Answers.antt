@@ -1,5 +1,4 @@
 -- `rules::binding_count` meets its contract.
-use borrow.Author.Rules.{rules}
 use Rattle.rules.proofs.CodeLaws.{binding_count_read}
 use Rattle.rules.proofs.binding_count.Goals as goal
 

@@ -1,5 +1,4 @@
 -- `rules::binding_of` meets its contract.
-use borrow.Author.Rules.{rules}
 use Rattle.rules.proofs.CodeLaws.{as_aggregate, as_positive}
 use Rattle.rules.proofs.binding_of.Goals as goal
 

@@ -1,5 +1,4 @@
 -- `rules::context_at` meets its contract.
-use borrow.Author.Rules.{rules}
 use Rattle.rules.proofs.CodeLaws.{context_read_lem}
 use Rattle.rules.proofs.context_at.Goals as goal
 

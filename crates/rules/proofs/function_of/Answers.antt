@@ -1,5 +1,4 @@
 -- `rules::function_of` meets its contract.
-use borrow.Author.Rules.{rules}
 use Rattle.rules.proofs.CodeLaws.{no_function}
 use Rattle.rules.proofs.function_of.Goals as goal
 

@@ -1,5 +1,4 @@
 -- `rules::guard_at` meets its contract.
-use borrow.Author.Rules.{rules}
 use Rattle.rules.proofs.CodeLaws.{guard_read}
 use Rattle.rules.proofs.guard_at.Goals as goal
 

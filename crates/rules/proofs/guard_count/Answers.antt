@@ -1,5 +1,4 @@
 -- `rules::guard_count` meets its contract.
-use borrow.Author.Rules.{rules}
 use Rattle.rules.proofs.CodeLaws.{guard_count_read}
 use Rattle.rules.proofs.guard_count.Goals as goal
 

@@ -1,5 +1,4 @@
 -- `rules::guard_of` meets its contract.
-use borrow.Author.Rules.{rules}
 use Rattle.rules.proofs.CodeLaws.{as_compare}
 use Rattle.rules.proofs.guard_of.Goals as goal
 

@@ -1,5 +1,4 @@
 -- `rules::head_at` meets its contract.
-use borrow.Author.Rules.{rules}
 use Rattle.rules.proofs.CodeLaws.{head_read}
 use Rattle.rules.proofs.head_at.Goals as goal
 

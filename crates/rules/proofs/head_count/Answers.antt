@@ -1,5 +1,4 @@
 -- `rules::head_count` meets its contract.
-use borrow.Author.Rules.{rules}
 use Rattle.rules.proofs.CodeLaws.{head_count_read}
 use Rattle.rules.proofs.head_count.Goals as goal
 

@@ -1,6 +1,5 @@
 -- `rules::put_binding` meets its contract.
 use Rattle.rules.proofs.CodeLaws.{binding_put, aggregate_put}
-use borrow.Author.Rules.{rules}
 use Rattle.rules.proofs.put_binding.Goals as goal
 
 pub returns-in-Positive : goal.returns-in-Positive

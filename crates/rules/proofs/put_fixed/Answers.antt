@@ -1,6 +1,5 @@
 -- `rules::put_fixed` meets its contract.
 use Rattle.rules.proofs.CodeLaws.{fixed_put}
-use borrow.Author.Rules.{rules}
 use Rattle.rules.proofs.put_fixed.Goals as goal
 
 pub returns : goal.returns

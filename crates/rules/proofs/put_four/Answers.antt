@@ -1,6 +1,5 @@
 -- `rules::put_four` meets its contract.
 use Rattle.rules.proofs.CodeLaws.{four_put}
-use borrow.Author.Rules.{rules}
 use Rattle.rules.proofs.put_four.Goals as goal
 
 pub returns : goal.returns

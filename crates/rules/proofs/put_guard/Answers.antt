@@ -1,6 +1,5 @@
 -- `rules::put_guard` meets its contract.
 use Rattle.rules.proofs.CodeLaws.{compare_put, membership_put}
-use borrow.Author.Rules.{rules}
 use Rattle.rules.proofs.put_guard.Goals as goal
 
 pub returns-in-Compare : goal.returns-in-Compare

@@ -1,13 +1,11 @@
 -- `rules::put_guards` meets its contract.
 use borrow.Author.Rules.{rules}
-use Prim.Native.Nat.{◌-◌, ◌≤◌}
 use native.Mathlib.Omega.{arith}
 use mathlib.Core.Path.{◌≡◌, refl, ap, ◌∙◌}
-use mathlib.Core.List.{map}
-use lib.ListN.{length, take}
-use lib.Seq.{sets, length-sets}
-use Rattle.rules.specs.Rule.{guard_cells, flat, cell}
-use Rattle.rules.proofs.CodeLaws.{Putting, put_none, put_item, put_last, guard_width}
+use lib.ListN.{length}
+use lib.Seq.{length-sets}
+use Rattle.rules.specs.Rule.{guard_cells}
+use Rattle.rules.proofs.CodeLaws.{put_none, put_item, put_last, guard_width}
 use Rattle.rules.proofs.put_guards.Goals as goal
 
 pub loop-i-init : goal.loop-i-init

@@ -1,13 +1,11 @@
 -- `rules::put_guards` meets its contract.
-use borrow.Author.Rules.{rules}
 use Prim.Native.Nat.{◌-◌, ◌≤◌}
-use native.Mathlib.Omega.{arith}
-use mathlib.Core.Path.{◌≡◌, refl, ap, ◌∙◌}
+use mathlib.Core.Path.{◌≡◌}
 use mathlib.Core.List.{map}
 use lib.ListN.{length, take}
-use lib.Seq.{sets, length-sets}
+use lib.Seq.{sets}
 use Rattle.rules.specs.Rule.{guard_cells, flat, cell}
-use Rattle.rules.proofs.CodeLaws.{Putting, put_none, put_item, put_last, guard_width}
+use Rattle.rules.proofs.CodeLaws.{Putting}
 use Rattle.rules.proofs.put_guards.Given as goal
 
 abbrev pub invariant-loop-i : goal.invariant-loop-i

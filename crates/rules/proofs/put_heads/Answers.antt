@@ -1,14 +1,13 @@
 -- `rules::put_heads` meets its contract.
-use Prim.Native.Nat.{◌+◌, ◌*◌, ◌-◌, ◌≤◌}
-use lib.ListN.{get_or, length, take}
+use Prim.Native.Nat.{◌+◌, ◌*◌}
+use lib.ListN.{get_or, length}
 use Rattle.rules.specs.declared.Head.{Head}
-use Rattle.rules.proofs.CodeLaws.{head_put, Putting, put_none, put_item, put_last, head_width}
+use Rattle.rules.proofs.CodeLaws.{head_put, put_none, put_item, put_last, head_width}
 use borrow.Author.Rules.{rules}
 use native.Mathlib.Omega.{arith}
 use mathlib.Core.Path.{◌≡◌, refl, ap, ◌∙◌}
-use mathlib.Core.List.{map}
-use lib.Seq.{sets, length-sets}
-use Rattle.rules.specs.Rule.{head_cells, flat, cell}
+use lib.Seq.{length-sets}
+use Rattle.rules.specs.Rule.{head_cells}
 use Rattle.rules.proofs.put_heads.Goals as goal
 
 pub loop-i-init : goal.loop-i-init

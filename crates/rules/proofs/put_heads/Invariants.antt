@@ -1,13 +1,10 @@
 -- `rules::put_heads` meets its contract.
-use Prim.Native.Nat.{◌+◌, ◌*◌, ◌-◌, ◌≤◌}
-use lib.ListN.{get_or, length, take}
-use Rattle.rules.specs.declared.Head.{Head}
-use Rattle.rules.proofs.CodeLaws.{head_put, Putting, put_none, put_item, put_last, head_width}
-use borrow.Author.Rules.{rules}
-use native.Mathlib.Omega.{arith}
-use mathlib.Core.Path.{◌≡◌, refl, ap, ◌∙◌}
+use Prim.Native.Nat.{◌-◌, ◌≤◌}
+use lib.ListN.{length, take}
+use Rattle.rules.proofs.CodeLaws.{Putting}
+use mathlib.Core.Path.{◌≡◌}
 use mathlib.Core.List.{map}
-use lib.Seq.{sets, length-sets}
+use lib.Seq.{sets}
 use Rattle.rules.specs.Rule.{head_cells, flat, cell}
 use Rattle.rules.proofs.put_heads.Given as goal
 

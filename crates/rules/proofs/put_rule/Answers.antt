@@ -1,6 +1,5 @@
 -- `rules::put_rule` meets its contract.
 use Rattle.rules.proofs.CodeLaws.{rule_put}
-use borrow.Author.Rules.{rules}
 use Rattle.rules.proofs.put_rule.Goals as goal
 
 pub returns : goal.returns

@@ -1,5 +1,4 @@
 -- `rules::relation_of` meets its contract.
-use borrow.Author.Rules.{rules}
 use Rattle.rules.proofs.CodeLaws.{no_relation}
 use Rattle.rules.proofs.relation_of.Goals as goal
 

@@ -1,5 +1,4 @@
 -- `rules::slots_at` meets its contract.
-use borrow.Author.Rules.{rules}
 use Rattle.rules.proofs.CodeLaws.{slots_read}
 use Rattle.rules.proofs.slots_at.Goals as goal
 

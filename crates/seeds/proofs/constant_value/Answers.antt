@@ -1,5 +1,4 @@
 -- `seeds::constant_value` meets its contract.
-use borrow.Author.Rules.{rules}
 use Rattle.seeds.proofs.CodeLaws.{constant_made}
 use Rattle.seeds.proofs.constant_value.Goals as goal
 

@@ -1,5 +1,4 @@
 -- `seeds::is_lost` meets its contract.
-use borrow.Author.Rules.{rules}
 use Rattle.seeds.proofs.CodeLaws.{lost_is}
 use Rattle.seeds.proofs.is_lost.Goals as goal
 

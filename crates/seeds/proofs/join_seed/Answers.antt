@@ -1,5 +1,4 @@
 -- `seeds::join_seed` meets its contract.
-use borrow.Author.Rules.{rules}
 use Rattle.seeds.proofs.CodeLaws.{join_stopped, join_done}
 use Rattle.seeds.proofs.join_seed.Goals as goal
 

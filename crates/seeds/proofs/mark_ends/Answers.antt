@@ -1,6 +1,5 @@
 -- `seeds::mark_ends` meets its contract.
 use native.Mathlib.Omega.{arith}
-use borrow.Author.Rules.{rules}
 use mir.Facts.{to_z-of_z}
 use Rattle.seeds.proofs.CodeLaws.{marks_on, marks_stop, low_stopped, both_marked, low_room}
 use Rattle.seeds.proofs.mark_ends.Goals as goal

@@ -1,5 +1,4 @@
 -- `seeds::room` meets its contract.
-use borrow.Author.Rules.{rules}
 use Rattle.seeds.proofs.CodeLaws.{room_over, room_is}
 use Rattle.seeds.proofs.room.Goals as goal
 

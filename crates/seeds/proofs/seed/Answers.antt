@@ -1,5 +1,4 @@
 -- `seeds::seed` meets its contract.
-use borrow.Author.Rules.{rules}
 use Rattle.lattice.specs.Value.{value_of}
 use Rattle.seeds.proofs.CodeLaws.{seed_stopped, seed_done}
 use Rattle.seeds.proofs.seed.Goals as goal

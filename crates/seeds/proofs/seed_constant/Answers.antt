@@ -1,5 +1,4 @@
 -- `seeds::seed_constant` meets its contract.
-use borrow.Author.Rules.{rules}
 use Rattle.seeds.proofs.CodeLaws.{seed_constant_stopped, seed_constant_done}
 use Rattle.seeds.proofs.seed_constant.Goals as goal
 

@@ -1,5 +1,4 @@
 -- `seeds::seed_ends` meets its contract.
-use borrow.Author.Rules.{rules}
 use mir.Facts.{to_z-of_z}
 use Rattle.seeds.proofs.CodeLaws.{ends_stopped, ends_done}
 use Rattle.seeds.proofs.seed_ends.Goals as goal

@@ -1,7 +1,5 @@
 -- `seeds::seed_interval` meets its contract.
 use native.Mathlib.Omega.{arith}
-use borrow.Author.Tests.{not-true, not-false}
-use borrow.Author.Rules.{rules}
 use mir.Facts.{to_z-of_z}
 use Rattle.integers.proofs.Bits.{lt_at}
 use Rattle.seeds.proofs.CallLaws.{room_left, thresholds_left, interval_thresholds, interval_sizes, interval_closed, interval_over, interval_full, interval_open, interval_unpaid, interval_descending, interval_unrecorded, interval_seeded}

@@ -1,7 +1,5 @@
 -- `seeds::seed_value` meets its contract.
 use native.Mathlib.Omega.{arith}
-use borrow.Author.Tests.{not-true, not-false}
-use borrow.Author.Rules.{rules}
 use Rattle.seeds.proofs.CallLaws.{room_left, value_constants, value_sizes, value_closed, value_over, value_full, value_open, value_unpaid, value_missing, value_unrecorded, value_seeded}
 use Rattle.seeds.proofs.seed_value.Goals as goal
 

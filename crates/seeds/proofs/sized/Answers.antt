@@ -1,5 +1,4 @@
 -- `seeds::sized` meets its contract.
-use borrow.Author.Rules.{rules}
 use Rattle.seeds.proofs.CodeLaws.{sized_not, sized_is}
 use Rattle.seeds.proofs.sized.Goals as goal
 

@@ -1,12 +1,7 @@
 -- `slots::copy_rows` meets its contract.
-use Prim.Native.Nat.{◌-◌}
 use native.Mathlib.Omega.{arith}
-use mathlib.Core.Path.{◌≡◌, refl, ◌∙◌}
-use borrow.Author.Rules.{rules}
-use lib.ListN.{length}
-use Rattle.limits.specs.Meter.{meter}
-use Rattle.limits.proofs.Onward.{Onward, onward_ends}
-use Rattle.slots.specs.Slots.{slots, copies}
+use mathlib.Core.Path.{refl, ◌∙◌}
+use Rattle.limits.proofs.Onward.{onward_ends}
 use Rattle.slots.proofs.CodeLaws.{copies_begun, copy_stopped, copy_made, copies_none}
 use Rattle.slots.proofs.copy_rows.Goals as goal
 

@@ -1,13 +1,10 @@
 -- `slots::copy_rows` meets its contract.
 use Prim.Native.Nat.{◌-◌}
-use native.Mathlib.Omega.{arith}
-use mathlib.Core.Path.{◌≡◌, refl, ◌∙◌}
-use borrow.Author.Rules.{rules}
+use mathlib.Core.Path.{◌≡◌}
 use lib.ListN.{length}
 use Rattle.limits.specs.Meter.{meter}
-use Rattle.limits.proofs.Onward.{Onward, onward_ends}
+use Rattle.limits.proofs.Onward.{Onward}
 use Rattle.slots.specs.Slots.{slots, copies}
-use Rattle.slots.proofs.CodeLaws.{copies_begun, copy_stopped, copy_made, copies_none}
 use Rattle.slots.proofs.copy_rows.Given as goal
 
 abbrev pub invariant-loop-k : goal.invariant-loop-k

@@ -1,5 +1,4 @@
 -- `slots::depend` meets its contract.
-use borrow.Author.Rules.{rules}
 use Rattle.slots.proofs.CodeLaws.{depend_kept, depend_marked}
 use Rattle.slots.proofs.depend.Goals as goal
 

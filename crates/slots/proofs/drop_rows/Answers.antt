@@ -1,8 +1,6 @@
 -- `slots::drop_rows` meets its contract.
-use Prim.Native.Nat.{◌-◌, ◌≤◌}
 use native.Mathlib.Omega.{arith}
-use borrow.Author.Rules.{rules}
-use Rattle.slots.proofs.CodeLaws.{Dropped, dropped_none, dropped_more, dropped_all}
+use Rattle.slots.proofs.CodeLaws.{dropped_none, dropped_more, dropped_all}
 use Rattle.slots.proofs.drop_rows.Goals as goal
 
 pub loop-k-init : goal.loop-k-init

@@ -1,11 +1,7 @@
 -- `slots::fill_tops` meets its contract.
-use Prim.Native.Nat.{◌-◌}
 use native.Mathlib.Omega.{arith}
-use mathlib.Core.Path.{◌≡◌, refl, ◌∙◌}
-use borrow.Author.Rules.{rules}
-use lib.ListN.{length}
-use Rattle.slots.specs.Slots.{tops}
-use Rattle.slots.proofs.CodeLaws.{Paying, paying_stops, paying_goes, paying_ends, pays_stopped, top_paid, tops_begun, tops_next, tops_none}
+use mathlib.Core.Path.{refl, ◌∙◌}
+use Rattle.slots.proofs.CodeLaws.{paying_stops, paying_goes, paying_ends, pays_stopped, top_paid, tops_begun, tops_next, tops_none}
 use Rattle.slots.proofs.fill_tops.Goals as goal
 
 pub loop-k-init : goal.loop-k-init

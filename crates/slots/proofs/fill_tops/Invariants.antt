@@ -1,11 +1,9 @@
 -- `slots::fill_tops` meets its contract.
 use Prim.Native.Nat.{◌-◌}
-use native.Mathlib.Omega.{arith}
-use mathlib.Core.Path.{◌≡◌, refl, ◌∙◌}
-use borrow.Author.Rules.{rules}
+use mathlib.Core.Path.{◌≡◌}
 use lib.ListN.{length}
 use Rattle.slots.specs.Slots.{tops}
-use Rattle.slots.proofs.CodeLaws.{Paying, paying_stops, paying_goes, paying_ends, pays_stopped, top_paid, tops_begun, tops_next, tops_none}
+use Rattle.slots.proofs.CodeLaws.{Paying}
 use Rattle.slots.proofs.fill_tops.Given as goal
 
 abbrev pub invariant-loop-k : goal.invariant-loop-k

@@ -1,5 +1,4 @@
 -- `slots::mark_dependent` meets its contract.
-use borrow.Author.Rules.{rules}
 use Rattle.slots.proofs.CodeLaws.{pays_stopped, pays_on, positive_marked, assign_marked, range_marked, aggregate_marked}
 use Rattle.slots.proofs.mark_dependent.Goals as goal
 

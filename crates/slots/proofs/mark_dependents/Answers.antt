@@ -1,13 +1,9 @@
 -- `slots::mark_dependents` meets its contract.
-use Prim.Native.Nat.{◌-◌}
 use native.Mathlib.Omega.{arith}
-use mathlib.Core.Path.{◌≡◌, refl, ◌∙◌}
-use borrow.Author.Rules.{rules}
-use lib.ListN.{length}
-use Rattle.integers.specs.Lists.{from}
-use Rattle.rules.specs.Read.{binding_at, bindings_at}
-use Rattle.slots.specs.Slots.{each, mark_dependent}
-use Rattle.slots.proofs.CodeLaws.{Paying, paying_begun, pays_stops, pays_goes, paying_ends, each_none}
+use mathlib.Core.Path.{refl, ◌∙◌}
+use Rattle.rules.specs.Read.{binding_at}
+use Rattle.slots.specs.Slots.{mark_dependent}
+use Rattle.slots.proofs.CodeLaws.{paying_begun, pays_stops, pays_goes, paying_ends, each_none}
 use Rattle.slots.proofs.mark_dependents.Goals as goal
 
 pub loop-j-init : goal.loop-j-init

@@ -1,5 +1,4 @@
 -- `slots::meet_argument` meets its contract.
-use borrow.Author.Rules.{rules}
 use Rattle.slots.proofs.CodeLaws.{step_stopped, step_on, argument_met, assign_met, range_met, aggregate_met}
 use Rattle.slots.proofs.meet_argument.Goals as goal
 

@@ -1,15 +1,12 @@
 -- `slots::meet_arguments` meets its contract.
 use Prim.Native.Nat.{◌-◌}
-use native.Mathlib.Omega.{arith}
-use mathlib.Core.Path.{◌≡◌, refl, ◌∙◌}
-use borrow.Author.Rules.{rules}
+use mathlib.Core.Path.{◌≡◌}
 use lib.ListN.{length}
 use Rattle.integers.specs.Lists.{from}
 use Rattle.limits.specs.Meter.{meter}
-use Rattle.limits.proofs.Onward.{Onward, onward_ends}
+use Rattle.limits.proofs.Onward.{Onward}
 use Rattle.rules.specs.Read.{binding_at, bindings_at}
 use Rattle.slots.specs.Slots.{slots, each, meet_argument}
-use Rattle.slots.proofs.CodeLaws.{each_begun, each_stops, each_goes, each_none}
 use Rattle.slots.proofs.meet_arguments.Given as goal
 
 abbrev pub invariant-loop-j : goal.invariant-loop-j

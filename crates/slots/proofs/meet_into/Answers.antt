@@ -1,5 +1,4 @@
 -- `slots::meet_into` meets its contract.
-use borrow.Author.Rules.{rules}
 use Rattle.lattice.specs.Value.{value_of}
 use Rattle.lattice.specs.Lattice.{meet}
 use Rattle.slots.proofs.CodeLaws.{replaced}

@@ -1,5 +1,4 @@
 -- `slots::meet_owned` meets its contract.
-use borrow.Author.Rules.{rules}
 use Rattle.lattice.specs.Value.{value_of}
 use Rattle.slots.proofs.CodeLaws.{owned_stopped, owned_going}
 use Rattle.slots.proofs.meet_owned.Goals as goal

@@ -1,5 +1,4 @@
 -- `slots::refine_into` meets its contract.
-use borrow.Author.Rules.{rules}
 use Rattle.lattice.specs.Lattice.{refine}
 use Rattle.slots.proofs.CodeLaws.{replaced}
 use Rattle.slots.proofs.refine_into.Goals as goal

@@ -1,5 +1,4 @@
 -- `slots::settle` meets its contract.
-use borrow.Author.Rules.{rules}
 use Rattle.slots.proofs.CodeLaws.{settle_stopped, settle_done}
 use Rattle.slots.proofs.settle.Goals as goal
 

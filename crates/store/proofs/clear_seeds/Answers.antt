@@ -1,9 +1,6 @@
 -- `store::clear_seeds` meets its contract.
-use Prim.Native.Nat.{◌-◌, ◌≤◌}
 use native.Mathlib.Omega.{arith}
-use mathlib.Core.Path.{◌≡◌, refl, ap, ◌∙◌}
-use lib.ListN.{length}
-use borrow.Author.Rules.{rules}
+use mathlib.Core.Path.{refl, ap, ◌∙◌}
 use Rattle.store.specs.Calls.{bottoms}
 use Rattle.store.proofs.CodeLaws.{bottoms_none, bottoms_more}
 use Rattle.store.proofs.clear_seeds.Goals as goal

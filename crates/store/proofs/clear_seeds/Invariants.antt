@@ -1,11 +1,8 @@
 -- `store::clear_seeds` meets its contract.
 use Prim.Native.Nat.{◌-◌, ◌≤◌}
-use native.Mathlib.Omega.{arith}
-use mathlib.Core.Path.{◌≡◌, refl, ap, ◌∙◌}
+use mathlib.Core.Path.{◌≡◌}
 use lib.ListN.{length}
-use borrow.Author.Rules.{rules}
 use Rattle.store.specs.Calls.{bottoms}
-use Rattle.store.proofs.CodeLaws.{bottoms_none, bottoms_more}
 use Rattle.store.proofs.clear_seeds.Given as goal
 
 abbrev pub invariant-loop-j : goal.invariant-loop-j

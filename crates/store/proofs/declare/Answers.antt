@@ -1,5 +1,4 @@
 -- `store::declare` meets its contract.
-use borrow.Author.Rules.{rules}
 use Rattle.store.proofs.CodeLaws.{declare_first, declare_second, declare_third, declare_all}
 use Rattle.store.proofs.declare.Goals as goal
 

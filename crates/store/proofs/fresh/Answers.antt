@@ -1,5 +1,4 @@
 -- `store::fresh` meets its contract.
-use borrow.Author.Rules.{rules}
 use Rattle.store.proofs.CodeLaws.{fresh_open, fresh_wide}
 use Rattle.store.proofs.fresh.Goals as goal
 

@@ -1,7 +1,5 @@
 -- `text::put_digits` meets its contract.
-use Prim.Native.Nat.{ℕ, ◌<◌}
 use native.Mathlib.Omega.{arith}
-use borrow.Author.Rules.{rules}
 use Rattle.text.proofs.Decimals.{decimal_some, tenth_length, puts_one, puts_more}
 use Rattle.text.proofs.+put_digits.Goals as goal
 

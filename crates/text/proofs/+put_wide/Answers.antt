@@ -1,5 +1,4 @@
 -- `text::put_wide` meets its contract.
-use Prim.Native.Nat.{ℕ, ◌+◌, ◌*◌, ◌<◌, ◌^◌}
 use native.Mathlib.Omega.{arith}
 use borrow.Author.Rules.{rules}
 use Rattle.text.proofs.Decimals.{puts_low, wide_less, wide_room, puts_wide, digit_small}

@@ -1,5 +1,4 @@
 -- `text::by_ten` meets its contract.
-use borrow.Author.Rules.{rules}
 use Rattle.text.proofs.Decimals.{upper_fits, wide_tenth, wide_digit}
 use Rattle.text.proofs.by_ten.Goals as goal
 

@@ -1,6 +1,5 @@
 -- `text::put_decimal` meets its contract.
 use native.Mathlib.Omega.{arith}
-use borrow.Author.Rules.{rules}
 use Rattle.text.proofs.Decimals.{decimal_length_64}
 use Rattle.text.proofs.put_decimal.Goals as goal
 

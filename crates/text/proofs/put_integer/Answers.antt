@@ -1,6 +1,5 @@
 -- `text::put_integer` meets its contract.
 use native.Mathlib.Omega.{arith}
-use borrow.Author.Rules.{rules}
 use Rattle.text.proofs.Signs.{less_fits, less_unsigned, more_fits, negative_room, puts_negative, plain_unsigned, plain_room, puts_plain}
 use Rattle.text.proofs.put_integer.Goals as goal
 

@@ -1,5 +1,4 @@
 -- `text::put_letter` meets its contract.
-use borrow.Author.Rules.{rules}
 use Rattle.text.proofs.Putting.{puts_then}
 use Rattle.text.proofs.put_letter.Goals as goal
 

@@ -1,11 +1,11 @@
 -- `text::put_others` meets its contract.
-use Prim.Native.Nat.{◌+◌, ◌-◌, ◌≤◌}
+use Prim.Native.Nat.{◌+◌}
 use native.Mathlib.Omega.{arith}
 use mathlib.Core.Path.{◌≡◌, refl, ◌∙◌}
 use borrow.Author.Rules.{rules}
 use lib.ListN.{length, get_or, take, drop, length-append}
 use Rattle.text.specs.Text.{decimal, others}
-use Rattle.text.proofs.Putting.{Leads, leads_whole, leads_more, puts_length}
+use Rattle.text.proofs.Putting.{leads_whole, leads_more, puts_length}
 use Rattle.text.proofs.Words.{others_room, sixteen, other_comma, other_room, others_end}
 use Rattle.text.proofs.put_others.Goals as goal
 

@@ -1,12 +1,9 @@
 -- `text::put_others` meets its contract.
-use Prim.Native.Nat.{◌+◌, ◌-◌, ◌≤◌}
-use native.Mathlib.Omega.{arith}
-use mathlib.Core.Path.{◌≡◌, refl, ◌∙◌}
-use borrow.Author.Rules.{rules}
-use lib.ListN.{length, get_or, take, drop, length-append}
-use Rattle.text.specs.Text.{decimal, others}
-use Rattle.text.proofs.Putting.{Leads, leads_whole, leads_more, puts_length}
-use Rattle.text.proofs.Words.{others_room, sixteen, other_comma, other_room, others_end}
+use Prim.Native.Nat.{◌-◌, ◌≤◌}
+use mathlib.Core.Path.{◌≡◌}
+use lib.ListN.{length, take, drop}
+use Rattle.text.specs.Text.{others}
+use Rattle.text.proofs.Putting.{Leads}
 use Rattle.text.proofs.put_others.Given as goal
 
 abbrev pub invariant-loop-i : goal.invariant-loop-i

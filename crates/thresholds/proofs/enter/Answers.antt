@@ -1,5 +1,4 @@
 -- `thresholds::enter` meets its contract.
-use borrow.Author.Rules.{rules}
 use mir.Facts.{to_z-of_z}
 use Rattle.thresholds.proofs.CodeLaws.{place_within, enter_found, enter_halted, enter_unpaid, enter_new}
 use Rattle.thresholds.proofs.enter.Goals as goal

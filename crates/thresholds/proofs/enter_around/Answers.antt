@@ -1,6 +1,5 @@
 -- `thresholds::enter_around` meets its contract.
 use native.Mathlib.Omega.{arith}
-use borrow.Author.Rules.{rules}
 use mir.Facts.{to_z-of_z}
 use Rattle.integers.proofs.Bits.{widens}
 use Rattle.thresholds.specs.Thresholds.{entry}

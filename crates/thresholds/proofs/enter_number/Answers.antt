@@ -1,5 +1,4 @@
 -- `thresholds::enter_number` meets its contract.
-use borrow.Author.Rules.{rules}
 use mir.Facts.{to_z-of_z}
 use Rattle.thresholds.specs.Thresholds.{entry}
 use Rattle.thresholds.proofs.CodeLaws.{below32, above32, within32, number_over, number_on}

@@ -1,15 +1,13 @@
 -- `thresholds::insert_number` meets its contract.
-use Prim.Native.Nat.{◌-◌, ◌≤◌}
 use native.Mathlib.Omega.{arith}
-use mathlib.Core.Path.{◌≡◌, refl, ◌∙◌}
+use mathlib.Core.Path.{refl, ◌∙◌}
 use lib.IntN.{pos}
-use lib.ListN.{length, length-set, get_or}
-use borrow.Author.Rules.{rules, sfits_of}
+use lib.ListN.{length-set, get_or}
+use borrow.Author.Rules.{sfits_of}
 use mir.Syntax.{w32}
-use mir.Val.{SFits, to_z}
+use mir.Val.{SFits}
 use mir.Facts.{to_z-of_z}
-use Rattle.integers.specs.Lists.{inserted}
-use Rattle.integers.proofs.Insertion.{Inserting, inserting, inserting_more, inserting_last}
+use Rattle.integers.proofs.Insertion.{inserting, inserting_more, inserting_last}
 use Rattle.thresholds.proofs.insert_number.Goals as goal
 
 pub loop-i-init : goal.loop-i-init

@@ -1,5 +1,4 @@
 -- `thresholds::pay` meets its contract.
-use borrow.Author.Rules.{rules}
 use Rattle.thresholds.proofs.CodeLaws.{cost_stopped, cost_paid}
 use Rattle.thresholds.proofs.pay.Goals as goal
 

@@ -1,11 +1,8 @@
 -- `widening::clear_growth` meets its contract.
 use Prim.Native.Nat.{◌≤◌, ◌-◌}
-use native.Mathlib.Omega.{arith}
-use mathlib.Core.Path.{◌≡◌, refl, ◌∙◌}
-use borrow.Author.Rules.{rules}
+use mathlib.Core.Path.{◌≡◌}
 use lib.ListN.{length}
 use Rattle.widening.specs.Widening.{no_growth}
-use Rattle.widening.proofs.CodeLaws.{clear_more}
 use Rattle.widening.proofs.clear_growth.Given as goal
 
 abbrev pub invariant-loop-i : goal.invariant-loop-i

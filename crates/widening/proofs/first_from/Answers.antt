@@ -1,15 +1,12 @@
 -- `widening::first_from` meets its contract.
-use Prim.Native.Nat.{◌+◌, ◌-◌}
 use mathlib.Core.Path.{refl}
-use borrow.Author.Rules.{rules, sfits_of}
-use lib.Signed.{le_z}
+use borrow.Author.Rules.{sfits_of}
 use lib.IntN.{pos}
-use lib.ListN.{length, get_or, drop}
+use lib.ListN.{get_or}
 use mir.Facts.{to_z-of_z}
-use mir.Val.{SFits, to_z}
+use mir.Val.{SFits}
 use mir.Syntax.{w32}
-use Rattle.widening.specs.Widening.{first_of}
-use Rattle.widening.proofs.Place.{Ahead, ahead_none, ahead_here, ahead_past, from_is}
+use Rattle.widening.proofs.Place.{ahead_none, ahead_here, ahead_past, from_is}
 use Rattle.widening.proofs.first_from.Goals as goal
 
 pub loop-i-init : goal.loop-i-init

@@ -1,5 +1,4 @@
 -- `widening::growth_at` meets its contract.
-use borrow.Author.Rules.{rules}
 use Rattle.widening.proofs.CodeLaws.{growth_beyond, growth_is}
 use Rattle.widening.proofs.growth_at.Goals as goal
 

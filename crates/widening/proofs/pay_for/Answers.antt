@@ -1,5 +1,4 @@
 -- `widening::pay_for` meets its contract.
-use borrow.Author.Rules.{rules}
 use mir.Facts.{to_z-of_z}
 use Rattle.widening.proofs.Place.{pays_stopped, pays_to}
 use Rattle.widening.proofs.pay_for.Goals as goal

@@ -1,5 +1,4 @@
 -- `widening::put_growth` meets its contract.
-use borrow.Author.Rules.{rules}
 use Rattle.widening.proofs.CodeLaws.{put_beyond, put_both}
 use Rattle.widening.proofs.put_growth.Goals as goal
 

@@ -1,15 +1,13 @@
 -- `widening::threshold_below` meets its contract.
-use Prim.Native.Nat.{◌≤◌, ◌-◌}
+use Prim.Native.Nat.{◌-◌}
 use native.Mathlib.Omega.{arith}
-use mathlib.Core.List.{reverse}
-use borrow.Author.Rules.{rules, sfits_of}
-use lib.Signed.{le_z}
+use borrow.Author.Rules.{sfits_of}
 use lib.IntN.{pos}
-use lib.ListN.{length, get_or, take}
+use lib.ListN.{get_or}
 use mir.Facts.{to_z-of_z}
-use mir.Val.{SFits, to_z}
+use mir.Val.{SFits}
 use mir.Syntax.{w32}
-use Rattle.widening.proofs.CodeLaws.{Seeking, seeking_begins, seeking_none, seeking_stops, seeking_hits, seeking_passes, top_first, top_all, top_none, below_is}
+use Rattle.widening.proofs.CodeLaws.{seeking_begins, seeking_none, seeking_stops, seeking_hits, seeking_passes, top_first, top_all, top_none, below_is}
 use Rattle.widening.proofs.threshold_below.Goals as goal
 
 pub loop-i-init : goal.loop-i-init

@@ -1,15 +1,9 @@
 -- `widening::threshold_below` meets its contract.
-use Prim.Native.Nat.{◌≤◌, ◌-◌}
-use native.Mathlib.Omega.{arith}
+use Prim.Native.Nat.{◌≤◌}
 use mathlib.Core.List.{reverse}
-use borrow.Author.Rules.{rules, sfits_of}
 use lib.Signed.{le_z}
-use lib.IntN.{pos}
-use lib.ListN.{length, get_or, take}
-use mir.Facts.{to_z-of_z}
-use mir.Val.{SFits, to_z}
-use mir.Syntax.{w32}
-use Rattle.widening.proofs.CodeLaws.{Seeking, seeking_begins, seeking_none, seeking_stops, seeking_hits, seeking_passes, top_first, top_all, top_none, below_is}
+use lib.ListN.{length, take}
+use Rattle.widening.proofs.CodeLaws.{Seeking}
 use Rattle.widening.proofs.threshold_below.Given as goal
 
 abbrev pub invariant-loop-i : goal.invariant-loop-i

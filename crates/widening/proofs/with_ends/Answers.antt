@@ -1,5 +1,4 @@
 -- `widening::with_ends` meets its contract.
-use borrow.Author.Rules.{rules}
 use mir.Facts.{to_z-of_z}
 use Rattle.widening.proofs.CodeLaws.{bounded_ends}
 use Rattle.widening.proofs.with_ends.Goals as goal

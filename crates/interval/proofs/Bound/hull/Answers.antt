@@ -1,5 +1,4 @@
 -- `interval::Bound::hull` meets its contract.
-use borrow.Author.Rules.{rules}
 use Rattle.interval.proofs.CodeLaws.{hull_parts}
 use Rattle.interval.proofs.Bound.hull.Goals as goal
 

@@ -1,5 +1,4 @@
 -- `interval::Bound::meet` meets its contract.
-use borrow.Author.Rules.{rules}
 use Rattle.interval.proofs.CodeLaws.{meet_parts}
 use Rattle.interval.proofs.Bound.meet.Goals as goal
 

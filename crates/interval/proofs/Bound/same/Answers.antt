@@ -1,5 +1,4 @@
 -- `interval::Bound::same` meets its contract.
-use borrow.Author.Rules.{rules}
 use Rattle.interval.proofs.CodeLaws.{both_integer, both_mixed}
 use Rattle.interval.proofs.Bound.same.Goals as goal
 

@@ -1,5 +1,4 @@
 -- `interval::Interval::checked` meets its contract.
-use borrow.Author.Rules.{rules}
 use mir.Facts.{to_z-of_z}
 use Rattle.integers.proofs.Bits.{read₂, sf32}
 use Rattle.interval.specs.Interval.{ascending_of}

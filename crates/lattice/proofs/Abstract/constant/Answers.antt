@@ -1,5 +1,4 @@
 -- `lattice::Abstract::constant` meets its contract.
-use borrow.Author.Rules.{rules}
 use Rattle.lattice.proofs.CodeLaws.{constant_large, constant_name_lem, constant_number_lem}
 use Rattle.lattice.proofs.Abstract.constant.Goals as goal
 

@@ -3,7 +3,6 @@ use mathlib.Core.Option.{some, none}
 use mathlib.Core.Bool.{Bool, cond}
 use mathlib.Core.Path.{refl, ap}
 use lib.ListN.{take}
-use borrow.Author.Rules.{rules}
 use Rattle.limits.proofs.CodeLaws.{work_paid, work_stopped}
 use Rattle.lattice.proofs.CodeLaws.{is_made, is_stopped, copied_stopped, copied_on, copied_listed, copied_unlisted}
 use Rattle.lattice.proofs.Abstract.copied.Goals as goal

@@ -3,7 +3,6 @@ use mathlib.Core.Option.{some, none}
 use mathlib.Core.Bool.{Bool, cond}
 use mathlib.Core.Path.{ap}
 use lib.ListN.{take}
-use borrow.Author.Rules.{rules}
 use Rattle.limits.proofs.CodeLaws.{work_paid, work_stopped}
 use Rattle.lattice.proofs.CodeLaws.{is_made, is_stopped, join_stopped, join_both, join_left, join_right}
 use Rattle.lattice.proofs.Abstract.join.Goals as goal

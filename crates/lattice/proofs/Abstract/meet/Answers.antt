@@ -1,5 +1,4 @@
 -- `lattice::Abstract::meet` meets its contract.
-use borrow.Author.Rules.{rules}
 use Rattle.limits.proofs.CodeLaws.{work_paid, work_stopped}
 use Rattle.lattice.proofs.CodeLaws.{is_stopped, meet_stopped, meet_on}
 use Rattle.lattice.proofs.Abstract.meet.Goals as goal

@@ -1,5 +1,4 @@
 -- `lattice::Abstract::numeric` meets its contract.
-use borrow.Author.Rules.{rules}
 use Rattle.lattice.proofs.CodeLaws.{numeric_bottom, numeric_bounded, numeric_unbounded}
 use Rattle.lattice.proofs.Abstract.numeric.Goals as goal
 

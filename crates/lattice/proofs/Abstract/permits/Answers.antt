@@ -3,7 +3,6 @@ use mathlib.Core.Option.{some, none}
 use mathlib.Core.Bool.{Bool, cond}
 use mathlib.Core.Path.{ap}
 use lib.ListN.{take}
-use borrow.Author.Rules.{rules}
 use Rattle.lattice.proofs.CodeLaws.{permits_listed, permits_unlisted}
 use Rattle.lattice.proofs.Abstract.permits.Goals as goal
 

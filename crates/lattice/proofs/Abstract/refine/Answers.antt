@@ -1,5 +1,4 @@
 -- `lattice::Abstract::refine` meets its contract.
-use borrow.Author.Rules.{rules}
 use Rattle.lattice.proofs.CodeLaws.{refine_is}
 use Rattle.lattice.proofs.Abstract.refine.Goals as goal
 

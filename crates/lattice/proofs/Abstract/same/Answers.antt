@@ -1,5 +1,4 @@
 -- `lattice::Abstract::same` meets its contract.
-use borrow.Author.Rules.{rules}
 use Rattle.limits.proofs.CodeLaws.{work_paid, work_stopped}
 use Rattle.lattice.proofs.CodeLaws.{same_stopped, same_bounds, other_bounds}
 use Rattle.lattice.proofs.Abstract.same.Goals as goal

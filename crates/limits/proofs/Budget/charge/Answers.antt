@@ -1,5 +1,4 @@
 -- `limits::Budget::charge` meets its contract.
-use borrow.Author.Rules.{rules}
 use Rattle.limits.proofs.CodeLaws.{bill_paid, bill_stopped}
 use Rattle.limits.proofs.Budget.charge.Goals as goal
 

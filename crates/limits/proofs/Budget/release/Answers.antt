@@ -1,5 +1,4 @@
 -- `limits::Budget::release` meets its contract.
-use borrow.Author.Rules.{rules}
 use Rattle.limits.proofs.CodeLaws.{release_is}
 use Rattle.limits.proofs.Budget.release.Goals as goal
 

@@ -1,6 +1,5 @@
 -- `limits::Budget::widen` meets its contract.
 use native.Mathlib.Omega.{arith}
-use borrow.Author.Rules.{rules}
 use Rattle.limits.proofs.CodeLaws.{widen_full, widen_more}
 use Rattle.limits.proofs.Budget.widen.Goals as goal
 

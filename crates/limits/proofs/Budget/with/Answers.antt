@@ -1,5 +1,4 @@
 -- `limits::Budget::with` meets its contract.
-use borrow.Author.Rules.{rules}
 use Rattle.limits.proofs.CodeLaws.{with_is}
 use Rattle.limits.proofs.Budget.with.Goals as goal
 

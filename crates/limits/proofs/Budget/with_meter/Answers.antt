@@ -1,5 +1,4 @@
 -- `limits::Budget::with_meter` meets its contract.
-use borrow.Author.Rules.{rules}
 use Rattle.limits.proofs.CodeLaws.{meter_is}
 use Rattle.limits.proofs.Budget.with_meter.Goals as goal
 

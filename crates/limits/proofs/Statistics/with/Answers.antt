@@ -1,5 +1,4 @@
 -- `limits::Statistics::with` meets its contract.
-use borrow.Author.Rules.{rules}
 use Rattle.limits.specs.declared.Resource.TheVariants.{Work, Predicates, Positions, Links, ValueEntries, Rounds, InspectedBytes}
 use Rattle.limits.proofs.CodeLaws.{at_resource}
 use Rattle.limits.proofs.Statistics.with.Goals as goal

@@ -1,5 +1,4 @@
 -- `nodes::Expression::node` meets its contract.
-use borrow.Author.Rules.{rules}
 use Rattle.nodes.proofs.CodeLaws.{node_is, node_unary, node_binary, node_unknown}
 use Rattle.nodes.proofs.Expression.node.Goals as goal
 

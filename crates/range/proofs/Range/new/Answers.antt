@@ -1,5 +1,4 @@
 -- `range::Range::new` meets its contract.
-use borrow.Author.Rules.{rules}
 use Rattle.integers.proofs.Bits.{widens, widened_is}
 use Rattle.range.proofs.CodeLaws.{from_ends}
 use Rattle.range.proofs.Range.new.Goals as goal

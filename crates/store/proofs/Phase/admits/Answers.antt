@@ -1,5 +1,4 @@
 -- `store::Phase::admits` meets its contract.
-use borrow.Author.Rules.{rules}
 use mathlib.Core.Path.{sym, ap}
 use Rattle.store.specs.Store.{admits}
 use Rattle.store.proofs.Phase.admits.Goals as goal

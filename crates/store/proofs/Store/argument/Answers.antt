@@ -1,7 +1,5 @@
 -- `store::Store::argument` meets its contract.
 use native.Mathlib.Omega.{arith}
-use borrow.Author.Tests.{not-true, not-false}
-use borrow.Author.Rules.{rules}
 use Rattle.store.proofs.CodeLaws.{argument_shape, argument_closed, argument_beyond, argument_missing, argument_outside, argument_id}
 use Rattle.store.proofs.Store.argument.Goals as goal
 

@@ -1,5 +1,4 @@
 -- `store::Store::charge` meets its contract.
-use borrow.Author.Rules.{rules}
 use Rattle.limits.specs.Budget.{charge}
 use Rattle.store.proofs.CodeLaws.{charge_paid, charge_stopped}
 use Rattle.store.proofs.Store.charge.Goals as goal

@@ -1,5 +1,4 @@
 -- `store::Store::context` meets its contract.
-use borrow.Author.Rules.{rules}
 use Rattle.store.proofs.CodeLaws.{context_set, context_closed}
 use Rattle.store.proofs.Store.context.Goals as goal
 

@@ -1,5 +1,4 @@
 -- `store::Store::declare` meets its contract.
-use borrow.Author.Rules.{rules}
 use Rattle.store.specs.Calls.{declared}
 use Rattle.store.proofs.CodeLaws.{charge_paid, charge_stopped}
 use Rattle.store.proofs.Store.declare.Goals as goal

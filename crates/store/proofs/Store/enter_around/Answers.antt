@@ -3,7 +3,6 @@ use mir.Facts.{to_z-of_z}
 use Rattle.thresholds.specs.Thresholds.{around}
 use Rattle.thresholds.proofs.CodeLaws.{went, halted}
 use Rattle.store.proofs.CodeLaws.{entering_done, entering_stopped}
-use borrow.Author.Rules.{rules}
 use Rattle.store.proofs.Store.enter_around.Goals as goal
 
 pub returns-in-Done : goal.returns-in-Done

@@ -1,8 +1,6 @@
 -- `store::Store::predicate` meets its contract.
 use native.Mathlib.Omega.{arith}
 use mathlib.Core.Path.{◌≡◌, sym, ap, ◌∙◌}
-use borrow.Author.Tests.{not-true, not-false}
-use borrow.Author.Rules.{rules}
 use Rattle.limits.specs.Budget.{work}
 use Rattle.store.specs.Calls.{declared}
 use Rattle.store.specs.Answers.{done}

@@ -1,5 +1,4 @@
 -- `store::Store::work` meets its contract.
-use borrow.Author.Rules.{rules}
 use Rattle.store.proofs.CodeLaws.{work_charged, work_closed}
 use Rattle.store.proofs.Store.work.Goals as goal
 
