@@ -17,7 +17,6 @@ use Rattle.limits.proofs.Live.{Lives, live_bind}
 use Rattle.interval.specs.declared.Interval.TheVariants.{Unbounded}
 use Rattle.lattice.specs.Value.{Value}
 use Rattle.rows.specs.Row.{row, entries_of}
-use Rattle.rows.specs.WellFormed.{WellFormed}
 use Rattle.rows.proofs.Good.{Good, top_good, numeric_good}
 use Rattle.rules.specs.declared.AggregateFunction.{AggregateFunction}
 use Rattle.rules.specs.declared.AggregateFunction.TheVariants.{Count, Sum, SumPlus, Min, Max}

@@ -9,7 +9,6 @@ use Rattle.limits.specs.Metered.{Metered}
 use Rattle.limits.specs.Meter.{Meter}
 use Rattle.limits.proofs.Live.{Lives, live_pure, live_test, live_bind, live_then, live_work, live_as, live_holding, live_dropping}
 use Rattle.interval.specs.declared.Interval.{Interval}
-use Rattle.interval.specs.declared.Interval.TheVariants.{Bottom, Bounded, Unbounded}
 use Rattle.lattice.specs.declared.Widening.{Widening}
 use Rattle.lattice.specs.Value.{Value}
 use Rattle.lattice.specs.Constants.{constant_at}

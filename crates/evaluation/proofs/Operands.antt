@@ -40,12 +40,11 @@ use Rattle.refinements.specs.Refinement.{refinement_at, refinements_of, narrow, 
 use Rattle.refinements.specs.Answers.{Places}
 use Rattle.refinements.proofs.CodeLaws.{restrict_stops, restrict_found, restrict_ends}
 use Rattle.lattice.specs.declared.Reason.{Reason}
-use Rattle.evaluation.specs.declared.Combined.TheVariants.{To}
 use Rattle.evaluation.specs.declared.Pair.{Pair}
 use Rattle.evaluation.specs.declared.Pair.TheVariants as pair
 use Rattle.evaluation.specs.declared.Operand.{Operand}
 use Rattle.evaluation.specs.declared.Operand.TheVariants as operand
-use Rattle.evaluation.specs.Evaluation.{Values, values}
+use Rattle.evaluation.specs.Evaluation.{Values}
 use Rattle.evaluation.specs.Answers.{Seen, seen_as, seen, shown, sees, operand_to, SeenOf, numbers, PlainOf, BoundNarrows, SeenBoth, both_as, sees_both, pair_to}
 use Rattle.evaluation.proofs.Parents.{after_stop, after_on}
 

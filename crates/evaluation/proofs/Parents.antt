@@ -1,4 +1,4 @@
--- A node with children, once they are worked out: what the code of `after_one`, `after_two_lem` and `narrowed` answers.
+-- A node with children, once they are worked out: what the code of `after_one`, `after_two` and `narrowed` answers.
 use Prim.Native.Nat.{ℕ, ◌-◌}
 use native.Mathlib.Omega.{arith}
 use mathlib.Core.Path.{◌≡◌, refl, sym, ap, ◌∙◌}
@@ -18,7 +18,6 @@ use Rattle.interval.specs.declared.Interval.{Interval}
 use Rattle.interval.specs.declared.Bound.{Bound}
 use Rattle.interval.specs.Bound.{numeric_of}
 use Rattle.interval.specs.declared.Interval.TheVariants.{Bottom, Bounded, Unbounded}
-use Rattle.lattice.specs.declared.Outcome.TheVariants.{Stopped}
 use Rattle.lattice.specs.Value.{Value}
 use Rattle.lattice.specs.Lattice.{numeric}
 use Rattle.rows.specs.Row.{entries_of}

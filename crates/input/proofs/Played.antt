@@ -73,8 +73,8 @@ module _ (c : Call) (typed : Typed c) (t : Tables) (r : Reached t) (e : Told) (u
   told_refused = where_stopped (subst (λ (x : Run Told Tables Reply). Ends (λ _ v. Goes t v) (Refused t) x) refused (call_keeps c typed t r))
 
   -- with number 1 or 2 nothing is changed
-  pub turned_down_lem : (e.number ≡ 1) ⊎ (e.number ≡ 2) → u ≡ t
-  turned_down_lem = told_refused.untouched
+  pub turned_down : (e.number ≡ 1) ⊎ (e.number ≡ 2) → u ≡ t
+  turned_down = told_refused.untouched
 
   -- otherwise thresholds, provenance records and what was charged of work, links and bytes at most
   pub refused_leaves : Leaves t u

@@ -46,10 +46,10 @@ charged_as (charged.Stopped s e) w mw me = stopped s (meter w mw e me)
 pub record Retains (count entries max_entries : ℕ) (r : Charged) : Type 0 where
   pub at : (w mw : ℕ) → charged_as r w mw max_entries ≡ retain_all 0 count (meter w mw entries max_entries)
 
-abbrev pub mergedAs : Kept → List ℕ → Meter → Run Stop Meter (Option (List ℕ))
-mergedAs All l m = going (some l) m
-mergedAs None l m = going none m
-mergedAs (kept.Stopped s) l m = stopped s m
+abbrev pub merged_as : Kept → List ℕ → Meter → Run Stop Meter (Option (List ℕ))
+merged_as All l m = going (some l) m
+merged_as None l m = going none m
+merged_as (kept.Stopped s) l m = stopped s m
 
 abbrev pub merged : Merged → ℕ → ℕ → Run Stop Meter (Option (List ℕ))
-merged r mw me = mergedAs r.kept (take r.len r.ids) (meter r.work mw r.entries me)
+merged r mw me = merged_as r.kept (take r.len r.ids) (meter r.work mw r.entries me)

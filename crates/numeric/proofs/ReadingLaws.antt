@@ -48,8 +48,8 @@ follows true Completed x = refl
 follows true (Stopped e c) x = refl
 
 module _ {A : Type 0} (s : Store) (sized : Bool) (x : Reading A) where
-  pub turned_down_lem : {e : Refusal} → permits sized s.phase ≡ Refused e → refused (told e) ≡ reading sized s x
-  turned_down_lem h = ap (λ (r : Read). following r x) (sym h) ∙ follows sized s.phase x
+  pub turned_down : {e : Refusal} → permits sized s.phase ≡ Refused e → refused (told e) ≡ reading sized s x
+  turned_down h = ap (λ (r : Read). following r x) (sym h) ∙ follows sized s.phase x
 
   pub permitted : {y : Reading A} → permits sized s.phase ≡ Given → y ≡ x → y ≡ reading sized s x
   permitted h e = e ∙ (ap (λ (r : Read). following r x) (sym h) ∙ follows sized s.phase x)
@@ -183,7 +183,7 @@ in_table rules r k slots p z h = (go (ltb r 256) refl, omega arith)
 module _ (s : Store) (arguments : List ℕ) (a : ℕ) (y : Valued) {r : Read} (p : r ≡ permits (eqb (length arguments) (rows.row * 256)) s.phase) where
   pub argument_down : {e : Refusal} → r ≡ Refused e → y.outcome ≡ Refused e → value_read y ≡ argument_reading s arguments a
   unfolding argument_reading
-  argument_down h o = rw o (turned_down_lem s (eqb (length arguments) (rows.row * 256)) (there (ltb a s.counts.positions) (value_at arguments a)) (sym p ∙ h))
+  argument_down h o = rw o (turned_down s (eqb (length arguments) (rows.row * 256)) (there (ltb a s.counts.positions) (value_at arguments a)) (sym p ∙ h))
 
   pub argument_missing : r ≡ Given → s.counts.positions ≤ a → y.outcome ≡ Refused Missing → value_read y ≡ argument_reading s arguments a
   unfolding argument_reading
@@ -201,7 +201,7 @@ module _ (s : Store) (records : List ℕ) (a : ℕ) {r : Read} (p : r ≡ permit
 
   pub count_down : {e : Refusal} → r ≡ Refused e → refused (told e) ≡ context_count_reading s records a
   unfolding context_count_reading
-  count_down h = turned_down_lem s (eqb (length records) 2048) counted (sym p ∙ h)
+  count_down h = turned_down s (eqb (length records) 2048) counted (sym p ∙ h)
 
   pub count_missing : r ≡ Given → s.counts.positions ≤ a → refused (told Missing) ≡ context_count_reading s records a
   unfolding context_count_reading
@@ -217,7 +217,7 @@ module _ (s : Store) (records : List ℕ) (a : ℕ) {r : Read} (p : r ≡ permit
 
     pub context_down : {e : Refusal} → r ≡ Refused e → refused (told e) ≡ context_reading s records a k
     unfolding context_reading
-    context_down h = turned_down_lem s (eqb (length records) 2048) asked (sym p ∙ h)
+    context_down h = turned_down s (eqb (length records) 2048) asked (sym p ∙ h)
 
     pub context_missing : r ≡ Given → s.counts.positions ≤ a → refused (told Missing) ≡ context_reading s records a k
     unfolding context_reading
@@ -233,7 +233,7 @@ module _ (s : Store) (rules slots : List ℕ) (q k : ℕ) (after : Bool) {r : Re
 
   pub slot_down : {e : Refusal} → r ≡ Refused e → refused (told e) ≡ slot_reading s rules slots q k after
   unfolding slot_reading
-  slot_down h = turned_down_lem s (eqb (length rules) (row * 256) && eqb (length slots) 32768) bounded (sym p ∙ h)
+  slot_down h = turned_down s (eqb (length rules) (row * 256) && eqb (length slots) 32768) bounded (sym p ∙ h)
 
   pub slot_missing : r ≡ Given → s.counts.rules ≤ q → refused (told Missing) ≡ slot_reading s rules slots q k after
   unfolding slot_reading
@@ -256,7 +256,7 @@ module _ (s : Store) (constants : List ℕ) (k : ℕ) {r : Read} (p : r ≡ perm
 
   pub key_down : {e : Refusal} → r ≡ Refused e → refused (told e) ≡ key_reading s constants k
   unfolding key_reading
-  key_down h = turned_down_lem s (eqb (length constants) 2048) keyed (sym p ∙ h)
+  key_down h = turned_down s (eqb (length constants) 2048) keyed (sym p ∙ h)
 
   pub key_missing : r ≡ Given → s.counts.constants ≤ k → refused (told Missing) ≡ key_reading s constants k
   unfolding key_reading
@@ -284,7 +284,7 @@ module _ (s : Store) (names constants : List ℕ) (k : ℕ) {r : Read} (p : r �
   unfolding name_reading
   name_down h q =
       ap (λ (n : ℕ). name_read n []) q
-      ∙ (plain (eqb (length names) 65536 && eqb (length constants) 2048) s.phase (sym p ∙ h) ∙ turned_down_lem s (eqb (length names) 65536 && eqb (length constants) 2048) named (sym p ∙ h))
+      ∙ (plain (eqb (length names) 65536 && eqb (length constants) 2048) s.phase (sym p ∙ h) ∙ turned_down s (eqb (length names) 65536 && eqb (length constants) 2048) named (sym p ∙ h))
 
   pub name_missing : r ≡ Given → s.counts.constants ≤ k → refused (told Missing) ≡ name_reading s names constants k
   unfolding name_reading

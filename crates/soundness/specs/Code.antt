@@ -1,5 +1,5 @@
 -- Demand 3 for the code. A raw state is the header that was handed back last, and what stands in the lent slices. Each case below is the `ensures`
--- of one entry point, word for word: a slice of the state stands for `now x.entry`, and a variable for `now x.exit`. What an entry point is
+-- of one entry point, word for word: a slice of the state stands for `x.old` or `x.now`, and a variable for `x.new`. What an entry point is
 -- not lent as `&mut` stays as it was.
 use Rattle.std.specs.Prelude.{ℕ, ◌≡◌, Bool, ℤ}
 use mathlib.Core.List.{List, [], ◌∷◌, Memᴰ}

@@ -1,5 +1,4 @@
 -- `bindings::aggregate` meets its contract.
-use borrow.Author.Rules.{rules}
 use Rattle.bindings.proofs.CodeLaws.{aggregate_is}
 use Rattle.bindings.proofs.aggregate.Goals as goal
 

@@ -1,5 +1,4 @@
 -- `bindings::assigned` meets its contract.
-use borrow.Author.Rules.{rules}
 use Rattle.integers.specs.Lists.{from}
 use Rattle.evaluation.specs.Evaluation.{input}
 use Rattle.bindings.proofs.CodeLaws.{assigned_is}

@@ -1,5 +1,4 @@
 -- `bindings::bind` meets its contract.
-use borrow.Author.Rules.{rules}
 use Rattle.rules.specs.Read.{bindings_at}
 use Rattle.evaluation.specs.Evaluation.{input}
 use Rattle.bindings.proofs.CodeLaws.{tops_stopped, rows_dropped, rows_bound}

@@ -1,5 +1,4 @@
 -- `bindings::bind_rows` meets its contract.
-use borrow.Author.Rules.{rules}
 use Rattle.limits.specs.Meter.{meter}
 use Rattle.rules.specs.Read.{bindings_at}
 use Rattle.slots.specs.Slots.{slots}

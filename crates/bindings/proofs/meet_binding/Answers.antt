@@ -1,5 +1,4 @@
 -- `bindings::meet_binding` meets its contract.
-use borrow.Author.Rules.{rules}
 use Rattle.limits.specs.Meter.{meter}
 use Rattle.evaluation.specs.Evaluation.{input}
 use Rattle.bindings.proofs.CodeLaws.{positive_passed, assign_met, range_met, aggregate_met}

@@ -1,14 +1,8 @@
 -- `bindings::meet_bindings` meets its contract.
-use Prim.Native.Nat.{◌-◌}
 use native.Mathlib.Omega.{arith}
-use mathlib.Core.Path.{◌≡◌, refl, ◌∙◌}
-use borrow.Author.Rules.{rules}
-use lib.ListN.{length}
-use Rattle.integers.specs.Lists.{from}
-use Rattle.limits.specs.Meter.{meter}
-use Rattle.limits.proofs.Onward.{Onward, onward_ends}
-use Rattle.rules.specs.Read.{binding_at, bindings_at}
-use Rattle.slots.specs.Slots.{slots, each}
+use mathlib.Core.Path.{refl, ◌∙◌}
+use Rattle.limits.proofs.Onward.{onward_ends}
+use Rattle.rules.specs.Read.{binding_at}
 use Rattle.slots.proofs.CodeLaws.{each_begun, each_stops, each_goes, each_none, step_stopped, step_on}
 use Rattle.evaluation.specs.Evaluation.{input}
 use Rattle.bindings.specs.Bindings.{meet_binding}

@@ -1,5 +1,4 @@
 -- `bindings::meet_made` meets its contract.
-use borrow.Author.Rules.{rules}
 use Rattle.bindings.proofs.CodeLaws.{made_stopped, made_met}
 use Rattle.bindings.proofs.meet_made.Goals as goal
 

@@ -1,5 +1,4 @@
 -- `bindings::ranged` meets its contract.
-use borrow.Author.Rules.{rules}
 use Rattle.bindings.proofs.CodeLaws.{ends_stopped, ends_made}
 use Rattle.evaluation.specs.Evaluation.{input}
 use Rattle.integers.specs.Lists.{from}

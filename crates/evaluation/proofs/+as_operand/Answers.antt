@@ -1,7 +1,5 @@
 -- `evaluation::as_operand` meets its contract.
 use native.Mathlib.Omega.{arith}
-use borrow.Author.Rules.{rules}
-use Prim.Native.Nat.{ℕ, ◌<◌}
 use mathlib.Core.Path.{ap}
 use Rattle.evaluation.proofs.CodeLaws.{charge_stopped, constant_node, unknown_node, seen_node, seen_slot, unary_stopped, unary_follows, absolute_stopped, absolute_follows, left_stopped, right_halted, two_follow}
 use Rattle.nodes.proofs.Descent.{unary_smaller, absolute_smaller, binary_smaller}

@@ -1,7 +1,5 @@
 -- `evaluation::known_identity` meets its contract.
-use Prim.Native.Nat.{ℕ, ◌<◌}
 use native.Mathlib.Omega.{arith}
-use borrow.Author.Rules.{rules}
 use Rattle.nodes.proofs.Descent.{unary_smaller, absolute_smaller, binary_smaller}
 use Rattle.evaluation.proofs.CodeLaws.{known_stopped, known_constant, known_slot, known_unary, known_absolute, right_stopped, right_unknown, right_known, known_unknown}
 use Rattle.evaluation.proofs.+known_identity.Goals as goal

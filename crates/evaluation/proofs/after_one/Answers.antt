@@ -1,5 +1,4 @@
 -- `evaluation::after_one` meets its contract.
-use borrow.Author.Rules.{rules}
 use Rattle.evaluation.proofs.Parents.{one_refused, one_made}
 use Rattle.refinements.specs.Refinement.{refinements_of}
 use Rattle.evaluation.proofs.after_one.Goals as goal

@@ -1,5 +1,4 @@
 -- `evaluation::after_two_lem` meets its contract.
-use borrow.Author.Rules.{rules}
 use Rattle.evaluation.proofs.Parents.{narrows_free, two_refused, two_halted, two_made}
 use Rattle.refinements.specs.Refinement.{refinements_of}
 use Rattle.evaluation.proofs.after_two.Goals as goal

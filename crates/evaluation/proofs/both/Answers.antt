@@ -1,5 +1,4 @@
 -- `evaluation::both` meets its contract.
-use borrow.Author.Rules.{rules}
 use Rattle.evaluation.proofs.CodeLaws.{first_stopped, second_stopped, both_seen}
 use Rattle.evaluation.specs.Evaluation.{input}
 use Rattle.refinements.specs.Refinement.{refinements_of}

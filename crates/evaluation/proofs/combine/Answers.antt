@@ -1,5 +1,4 @@
 -- `evaluation::combine` meets its contract.
-use borrow.Author.Rules.{rules}
 use Rattle.evaluation.proofs.CodeLaws.{left_empty, right_empty, worked, same_stopped, same_zero, open_ended}
 use Rattle.evaluation.proofs.combine.Goals as goal
 

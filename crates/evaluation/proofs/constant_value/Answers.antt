@@ -1,5 +1,4 @@
 -- `evaluation::constant_value` meets its contract.
-use borrow.Author.Rules.{rules}
 use Rattle.evaluation.proofs.constant_value.Goals as goal
 
 pub returns : goal.returns

@@ -1,5 +1,4 @@
 -- `evaluation::expression` meets its contract.
-use borrow.Author.Rules.{rules}
 use mathlib.Core.Path.{◌∙◌}
 use Rattle.evaluation.proofs.CodeLaws.{charge_stopped, constant_node, slot_node, unknown_node, plain_node}
 use Rattle.evaluation.specs.Evaluation.{input}

@@ -1,5 +1,4 @@
 -- `evaluation::finish` meets its contract.
-use borrow.Author.Rules.{rules}
 use Rattle.lattice.specs.Answers.{made}
 use Rattle.refinements.specs.Refinement.{refinements_of, restrict}
 use Rattle.evaluation.proofs.CodeLaws.{finish_free, finish_stopped, finish_done}

@@ -1,6 +1,4 @@
 -- `evaluation::is_identical` meets its contract.
-use borrow.Author.Tests.{not-true, not-false}
-use borrow.Author.Rules.{rules}
 use Rattle.evaluation.proofs.CodeLaws.{other_operator, operands_same, operands_apart}
 use Rattle.evaluation.proofs.is_identical.Goals as goal
 

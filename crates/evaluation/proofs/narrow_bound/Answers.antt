@@ -1,5 +1,4 @@
 -- `evaluation::narrow_bound` meets its contract.
-use borrow.Author.Rules.{rules}
 use Rattle.evaluation.proofs.Operands.{bound_mixed, bound_refused, bound_met}
 use Rattle.evaluation.proofs.narrow_bound.Goals as goal
 

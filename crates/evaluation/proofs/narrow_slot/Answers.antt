@@ -1,5 +1,4 @@
 -- `evaluation::narrow_slot` meets its contract.
-use borrow.Author.Rules.{rules}
 use Rattle.evaluation.proofs.Operands.{listed_narrowed, unlisted_narrowed}
 use Rattle.rows.specs.Row.{value_at}
 use Rattle.evaluation.proofs.narrow_slot.Goals as goal

@@ -1,5 +1,4 @@
 -- `evaluation::narrowed` meets its contract.
-use borrow.Author.Rules.{rules}
 use Rattle.evaluation.proofs.Parents.{narrows_stopped, narrows_to}
 use Rattle.evaluation.proofs.narrowed.Goals as goal
 

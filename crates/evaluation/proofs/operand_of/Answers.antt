@@ -1,5 +1,4 @@
 -- `evaluation::operand_of` meets its contract.
-use borrow.Author.Rules.{rules}
 use Rattle.evaluation.proofs.Operands.{seen_halted, seen_done}
 use Rattle.evaluation.proofs.operand_of.Goals as goal
 

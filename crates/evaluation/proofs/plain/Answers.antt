@@ -1,5 +1,4 @@
 -- `evaluation::plain` meets its contract.
-use borrow.Author.Rules.{rules}
 use Rattle.evaluation.proofs.Operands.{plain_stopped, plain_made}
 use Rattle.evaluation.proofs.plain.Goals as goal
 

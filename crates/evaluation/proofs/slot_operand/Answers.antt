@@ -1,5 +1,4 @@
 -- `evaluation::slot_operand` meets its contract.
-use borrow.Author.Rules.{rules}
 use Rattle.evaluation.proofs.Operands.{copy_stopped, search_stopped, slot_seen, slot_narrowed}
 use Rattle.rows.specs.Row.{value_at}
 use Rattle.evaluation.proofs.slot_operand.Goals as goal

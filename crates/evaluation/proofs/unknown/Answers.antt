@@ -1,5 +1,4 @@
 -- `evaluation::unknown` meets its contract.
-use borrow.Author.Rules.{rules}
 use Rattle.evaluation.proofs.CodeLaws.{unknown_integer, unknown_any}
 use Rattle.evaluation.proofs.unknown.Goals as goal
 

@@ -1,5 +1,4 @@
 -- `guards::compare` meets its contract.
-use borrow.Author.Rules.{rules}
 use Rattle.guards.proofs.CodeLaws.{compared_yes, compared_no}
 use Rattle.guards.specs.Answers.{bare}
 use Rattle.guards.proofs.compare.Goals as goal

@@ -1,5 +1,4 @@
 -- `guards::comparison` meets its contract.
-use borrow.Author.Rules.{rules}
 use Rattle.guards.proofs.CodeLaws.{compared_bounds, with_stopped, with_done}
 use Rattle.guards.specs.Guards.{compared}
 use Rattle.evaluation.specs.Evaluation.{input}

@@ -1,5 +1,4 @@
 -- `guards::drop_pair` meets its contract.
-use borrow.Author.Rules.{rules}
 use Rattle.guards.proofs.CodeLaws.{drop_stopped, drop_done}
 use Rattle.guards.proofs.drop_pair.Goals as goal
 

@@ -1,5 +1,4 @@
 -- `guards::guard` meets its contract.
-use borrow.Author.Rules.{rules}
 use Rattle.rules.specs.Read.{guards_at}
 use Rattle.evaluation.specs.Evaluation.{input}
 use Rattle.guards.proofs.CodeLaws.{copies_stopped, guard_stopped, guard_done}

@@ -1,15 +1,9 @@
 -- `guards::guard_rows` meets its contract.
-use Prim.Native.Nat.{◌-◌}
 use native.Mathlib.Omega.{arith}
-use mathlib.Core.Path.{◌≡◌, refl, ◌∙◌}
-use borrow.Author.Rules.{rules}
-use lib.ListN.{length}
-use Rattle.limits.specs.Meter.{meter}
-use Rattle.limits.proofs.Onward.{Onward}
-use Rattle.rules.specs.Read.{guard_at, guards_at}
+use mathlib.Core.Path.{refl, ◌∙◌}
+use Rattle.rules.specs.Read.{guard_at}
 use Rattle.evaluation.specs.Evaluation.{input}
-use Rattle.guards.specs.Guards.{local, guard_all}
-use Rattle.guards.proofs.CodeLaws.{guards, guards_begun, guards_stop, guards_go, guards_end}
+use Rattle.guards.proofs.CodeLaws.{guards_begun, guards_stop, guards_go, guards_end}
 use Rattle.guards.proofs.guard_rows.Goals as goal
 
 pub loop-j-init : goal.loop-j-init

@@ -1,15 +1,13 @@
 -- `guards::guard_rows` meets its contract.
 use Prim.Native.Nat.{◌-◌}
-use native.Mathlib.Omega.{arith}
-use mathlib.Core.Path.{◌≡◌, refl, ◌∙◌}
-use borrow.Author.Rules.{rules}
+use mathlib.Core.Path.{◌≡◌}
 use lib.ListN.{length}
 use Rattle.limits.specs.Meter.{meter}
 use Rattle.limits.proofs.Onward.{Onward}
 use Rattle.rules.specs.Read.{guard_at, guards_at}
 use Rattle.evaluation.specs.Evaluation.{input}
 use Rattle.guards.specs.Guards.{local, guard_all}
-use Rattle.guards.proofs.CodeLaws.{guards, guards_begun, guards_stop, guards_go, guards_end}
+use Rattle.guards.proofs.CodeLaws.{guards}
 use Rattle.guards.proofs.guard_rows.Given as goal
 
 abbrev pub invariant-loop-j : goal.invariant-loop-j

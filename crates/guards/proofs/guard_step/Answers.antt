@@ -1,5 +1,4 @@
 -- `guards::guard_step` meets its contract.
-use borrow.Author.Rules.{rules}
 use Rattle.rules.specs.declared.Guard.TheVariants.{Compare, Membership}
 use Rattle.evaluation.specs.Evaluation.{input}
 use Rattle.guards.proofs.CodeLaws.{step_stopped, step_on}

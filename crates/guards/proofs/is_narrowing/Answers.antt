@@ -1,7 +1,5 @@
 -- `guards::is_narrowing` meets its contract.
-use borrow.Author.Rules.{rules}
 use Rattle.guards.specs.Answers.{bare}
-use borrow.Author.Tests.{not-true, not-false}
 use Rattle.guards.proofs.CodeLaws.{left_named, right_named, neither_named}
 use Rattle.guards.proofs.is_narrowing.Goals as goal
 

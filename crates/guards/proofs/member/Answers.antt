@@ -1,6 +1,4 @@
 -- `guards::member` meets its contract.
-use borrow.Author.Rules.{rules}
-use borrow.Author.Tests.{not-true, not-false}
 use Rattle.guards.proofs.CodeLaws.{own_named, low_named, high_named, member_stopped, member_done}
 use Rattle.guards.specs.Answers.{bare}
 use Rattle.guards.proofs.member.Goals as goal

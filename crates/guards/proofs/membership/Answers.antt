@@ -1,5 +1,4 @@
 -- `guards::membership` meets its contract.
-use borrow.Author.Rules.{rules}
 use Rattle.guards.proofs.CodeLaws.{member_bounds, with_stopped, with_done, refines_member}
 use Rattle.guards.specs.Guards.{member}
 use Rattle.evaluation.specs.Evaluation.{input}

@@ -1,5 +1,4 @@
 -- `guards::narrow_known` meets its contract.
-use borrow.Author.Rules.{rules}
 use Rattle.guards.proofs.CodeLaws.{known_refused, known_stopped, known_done}
 use Rattle.guards.proofs.narrow_known.Goals as goal
 

@@ -1,5 +1,4 @@
 -- `guards::refine_both` meets its contract.
-use borrow.Author.Rules.{rules}
 use Rattle.guards.proofs.CodeLaws.{left_stopped, left_done}
 use Rattle.guards.proofs.refine_both.Goals as goal
 

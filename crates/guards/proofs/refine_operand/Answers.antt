@@ -1,5 +1,4 @@
 -- `guards::refine_operand` meets its contract.
-use borrow.Author.Rules.{rules}
 use Rattle.guards.proofs.CodeLaws.{operand_stopped, operand_unknown, operand_known}
 use Rattle.guards.proofs.refine_operand.Goals as goal
 

@@ -1,12 +1,7 @@
 -- `passes::advance` meets its contract.
-use Prim.Native.Nat.{◌-◌}
 use native.Mathlib.Omega.{arith}
-use mathlib.Core.Bool.{false}
-use mathlib.Core.Path.{◌≡◌, refl, ◌∙◌}
-use borrow.Author.Rules.{rules}
-use lib.ListN.{length}
-use Rattle.limits.proofs.Onward.{Onward, onward_ends}
-use Rattle.passes.specs.Step.{steps, advance}
+use mathlib.Core.Path.{refl, ◌∙◌}
+use Rattle.limits.proofs.Onward.{onward_ends}
 use Rattle.passes.proofs.PassLaws.{advance_begun, advance_stopped, advance_goes, advance_none}
 use Rattle.passes.proofs.advance.Goals as goal
 

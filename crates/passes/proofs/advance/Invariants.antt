@@ -1,13 +1,10 @@
 -- `passes::advance` meets its contract.
 use Prim.Native.Nat.{◌-◌}
-use native.Mathlib.Omega.{arith}
 use mathlib.Core.Bool.{false}
-use mathlib.Core.Path.{◌≡◌, refl, ◌∙◌}
-use borrow.Author.Rules.{rules}
+use mathlib.Core.Path.{◌≡◌}
 use lib.ListN.{length}
-use Rattle.limits.proofs.Onward.{Onward, onward_ends}
+use Rattle.limits.proofs.Onward.{Onward}
 use Rattle.passes.specs.Step.{steps, advance}
-use Rattle.passes.proofs.PassLaws.{advance_begun, advance_stopped, advance_goes, advance_none}
 use Rattle.passes.proofs.advance.Given as goal
 
 abbrev pub invariant-loop-i : goal.invariant-loop-i

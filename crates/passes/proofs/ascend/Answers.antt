@@ -1,12 +1,6 @@
 -- `passes::ascend` meets its contract.
-use Prim.Native.Nat.{◌-◌}
-use mathlib.Core.Path.{◌≡◌, refl, ◌∙◌}
-use borrow.Author.Rules.{rules}
-use lib.ListN.{length}
-use Rattle.evaluation.specs.Evaluation.{input}
-use Rattle.rounds.specs.Round.{given}
-use Rattle.passes.specs.Pass.{ascent}
-use Rattle.passes.proofs.PassLaws.{Ascending, ascend_begun, ascend_stopped, ascend_settled, ascend_less, ascend_again}
+use mathlib.Core.Path.{refl, ◌∙◌}
+use Rattle.passes.proofs.PassLaws.{ascend_begun, ascend_stopped, ascend_settled, ascend_less, ascend_again}
 use Rattle.passes.proofs.ascend.Goals as goal
 
 pub loop-stop-init : goal.loop-stop-init

@@ -1,12 +1,11 @@
 -- `passes::ascend` meets its contract.
 use Prim.Native.Nat.{◌-◌}
-use mathlib.Core.Path.{◌≡◌, refl, ◌∙◌}
-use borrow.Author.Rules.{rules}
+use mathlib.Core.Path.{◌≡◌}
 use lib.ListN.{length}
 use Rattle.evaluation.specs.Evaluation.{input}
 use Rattle.rounds.specs.Round.{given}
 use Rattle.passes.specs.Pass.{ascent}
-use Rattle.passes.proofs.PassLaws.{Ascending, ascend_begun, ascend_stopped, ascend_settled, ascend_less, ascend_again}
+use Rattle.passes.proofs.PassLaws.{Ascending}
 use Rattle.passes.proofs.ascend.Given as goal
 
 abbrev pub invariant-loop-stop : goal.invariant-loop-stop

@@ -1,5 +1,4 @@
 -- `passes::compare` meets its contract.
-use borrow.Author.Rules.{rules}
 use Rattle.passes.proofs.StepLaws.{compare_stopped, compare_yes, compare_no}
 use Rattle.passes.proofs.compare.Goals as goal
 

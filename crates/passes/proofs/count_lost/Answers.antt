@@ -1,5 +1,4 @@
 -- `passes::count_lost` meets its contract.
-use borrow.Author.Rules.{rules}
 use Rattle.passes.proofs.StepLaws.{lost_counted, kept_counted}
 use Rattle.passes.proofs.count_lost.Goals as goal
 

@@ -1,5 +1,4 @@
 -- `passes::grow` meets its contract.
-use borrow.Author.Rules.{rules}
 use Rattle.lattice.specs.Value.{value_of}
 use Rattle.passes.proofs.StepLaws.{grow_unpaid, grow_unjoined, grow_on}
 use Rattle.passes.proofs.grow.Goals as goal

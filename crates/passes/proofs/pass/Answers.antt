@@ -1,5 +1,4 @@
 -- `passes::pass` meets its contract.
-use borrow.Author.Rules.{rules}
 use Rattle.evaluation.specs.Evaluation.{input}
 use Rattle.rounds.specs.Round.{given}
 use Rattle.passes.proofs.PassLaws.{pass_stopped, pass_on}

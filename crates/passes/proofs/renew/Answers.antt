@@ -1,5 +1,4 @@
 -- `passes::renew` meets its contract.
-use borrow.Author.Rules.{rules}
 use Rattle.passes.proofs.PassLaws.{renew_stopped, renew_changed, renew_settled}
 use Rattle.passes.proofs.renew.Goals as goal
 

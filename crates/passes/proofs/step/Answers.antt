@@ -1,5 +1,4 @@
 -- `passes::step` meets its contract.
-use borrow.Author.Rules.{rules}
 use Rattle.passes.proofs.StepLaws.{step_stopped, step_done}
 use Rattle.passes.proofs.step.Goals as goal
 

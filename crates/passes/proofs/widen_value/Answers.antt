@@ -1,5 +1,4 @@
 -- `passes::widen_value` meets its contract.
-use borrow.Author.Rules.{rules}
 use Rattle.lattice.specs.Value.{value_of}
 use Rattle.passes.proofs.StepLaws.{widen_stopped, widen_into}
 use Rattle.passes.proofs.widen_value.Goals as goal

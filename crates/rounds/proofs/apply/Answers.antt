@@ -1,5 +1,4 @@
 -- `rounds::apply` meets its contract.
-use borrow.Author.Rules.{rules}
 use Rattle.rules.specs.Read.{heads_at}
 use Rattle.slots.specs.Slots.{each}
 use Rattle.evaluation.specs.Evaluation.{input}

@@ -1,5 +1,4 @@
 -- `rounds::apply_in` meets its contract.
-use borrow.Author.Rules.{rules}
 use Rattle.evaluation.specs.Evaluation.{input}
 use Rattle.rounds.specs.Round.{apply}
 use Rattle.rounds.proofs.CodeLaws.{bills_stopped, bills_going}

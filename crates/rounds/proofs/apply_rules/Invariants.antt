@@ -1,12 +1,10 @@
 -- `rounds::apply_rules` meets its contract.
 use Prim.Native.Nat.{◌-◌}
-use native.Mathlib.Omega.{arith}
-use mathlib.Core.Path.{◌≡◌, refl, ◌∙◌}
-use borrow.Author.Rules.{rules}
+use mathlib.Core.Path.{◌≡◌}
 use lib.ListN.{length}
 use Rattle.evaluation.specs.Evaluation.{input}
 use Rattle.rounds.specs.Round.{apply}
-use Rattle.rounds.proofs.CodeLaws.{Ruling, ruling_begins, ruling_stops, ruling_goes, ruling_ends}
+use Rattle.rounds.proofs.CodeLaws.{Ruling}
 use Rattle.rounds.proofs.apply_rules.Given as goal
 
 abbrev pub invariant-loop-id : goal.invariant-loop-id

@@ -1,5 +1,4 @@
 -- `rounds::copy_in` meets its contract.
-use borrow.Author.Rules.{rules}
 use Rattle.slots.specs.Slots.{copies}
 use Rattle.rounds.proofs.CodeLaws.{bills_stopped, bills_going}
 use Rattle.rounds.proofs.copy_in.Goals as goal

@@ -1,5 +1,4 @@
 -- `rounds::drop_locals` meets its contract.
-use borrow.Author.Rules.{rules}
 use Rattle.rounds.proofs.CodeLaws.{drops_stopped, drops_going}
 use Rattle.rounds.proofs.drop_locals.Goals as goal
 

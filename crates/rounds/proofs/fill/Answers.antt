@@ -1,5 +1,4 @@
 -- `rounds::fill` meets its contract.
-use borrow.Author.Rules.{rules}
 use Rattle.evaluation.specs.Evaluation.{input}
 use Rattle.rounds.proofs.CodeLaws.{fill_stopped, fill_on}
 use Rattle.rounds.proofs.fill.Goals as goal

@@ -1,5 +1,4 @@
 -- `rounds::image` meets its contract.
-use borrow.Author.Rules.{rules}
 use Rattle.rounds.proofs.CodeLaws.{round_stopped, round_paid}
 use Rattle.rounds.proofs.image.Goals as goal
 

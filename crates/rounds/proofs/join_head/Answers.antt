@@ -1,5 +1,4 @@
 -- `rounds::join_head` meets its contract.
-use borrow.Author.Rules.{rules}
 use Rattle.slots.proofs.CodeLaws.{step_stopped}
 use Rattle.evaluation.specs.Evaluation.{input}
 use Rattle.rounds.specs.Round.{join_head}

@@ -1,14 +1,8 @@
 -- `rounds::join_heads` meets its contract.
-use Prim.Native.Nat.{◌-◌}
 use native.Mathlib.Omega.{arith}
-use mathlib.Core.Path.{◌≡◌, refl, ◌∙◌}
-use borrow.Author.Rules.{rules}
-use lib.ListN.{length}
-use Rattle.integers.specs.Lists.{from}
-use Rattle.limits.specs.Meter.{meter}
-use Rattle.limits.proofs.Onward.{Onward, onward_ends}
-use Rattle.rules.specs.Read.{head_at, heads_at}
-use Rattle.slots.specs.Slots.{slots, each}
+use mathlib.Core.Path.{refl, ◌∙◌}
+use Rattle.limits.proofs.Onward.{onward_ends}
+use Rattle.rules.specs.Read.{head_at}
 use Rattle.slots.proofs.CodeLaws.{each_begun, each_stops, each_goes, each_none}
 use Rattle.evaluation.specs.Evaluation.{input}
 use Rattle.rounds.specs.Round.{join_head}

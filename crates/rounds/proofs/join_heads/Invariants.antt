@@ -1,15 +1,12 @@
 -- `rounds::join_heads` meets its contract.
 use Prim.Native.Nat.{◌-◌}
-use native.Mathlib.Omega.{arith}
-use mathlib.Core.Path.{◌≡◌, refl, ◌∙◌}
-use borrow.Author.Rules.{rules}
+use mathlib.Core.Path.{◌≡◌}
 use lib.ListN.{length}
 use Rattle.integers.specs.Lists.{from}
 use Rattle.limits.specs.Meter.{meter}
-use Rattle.limits.proofs.Onward.{Onward, onward_ends}
+use Rattle.limits.proofs.Onward.{Onward}
 use Rattle.rules.specs.Read.{head_at, heads_at}
 use Rattle.slots.specs.Slots.{slots, each}
-use Rattle.slots.proofs.CodeLaws.{each_begun, each_stops, each_goes, each_none}
 use Rattle.evaluation.specs.Evaluation.{input}
 use Rattle.rounds.specs.Round.{join_head}
 use Rattle.rounds.proofs.join_heads.Given as goal

@@ -1,5 +1,4 @@
 -- `rounds::join_owned` meets its contract.
-use borrow.Author.Rules.{rules}
 use Rattle.lattice.specs.Value.{value_of}
 use Rattle.rounds.proofs.CodeLaws.{join_stopped, join_done}
 use Rattle.rounds.proofs.join_owned.Goals as goal

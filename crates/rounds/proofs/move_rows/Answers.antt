@@ -1,10 +1,6 @@
 -- `rounds::move_rows` meets its contract.
-use Prim.Native.Nat.{◌-◌, ◌≤◌}
 use native.Mathlib.Omega.{arith}
-use mathlib.Core.Path.{◌≡◌, refl, ◌∙◌}
-use borrow.Author.Rules.{rules}
-use lib.ListN.{length}
-use Rattle.rounds.specs.Round.{moved}
+use mathlib.Core.Path.{refl, ◌∙◌}
 use Rattle.rounds.proofs.CodeLaws.{moved_none, moved_more, moved_all}
 use Rattle.rounds.proofs.move_rows.Goals as goal
 

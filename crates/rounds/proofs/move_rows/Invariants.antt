@@ -1,11 +1,8 @@
 -- `rounds::move_rows` meets its contract.
 use Prim.Native.Nat.{◌-◌, ◌≤◌}
-use native.Mathlib.Omega.{arith}
-use mathlib.Core.Path.{◌≡◌, refl, ◌∙◌}
-use borrow.Author.Rules.{rules}
+use mathlib.Core.Path.{◌≡◌}
 use lib.ListN.{length}
 use Rattle.rounds.specs.Round.{moved}
-use Rattle.rounds.proofs.CodeLaws.{moved_none, moved_more, moved_all}
 use Rattle.rounds.proofs.move_rows.Given as goal
 
 abbrev pub invariant-loop-i : goal.invariant-loop-i

@@ -1,6 +1,4 @@
 -- `rounds::produce` meets its contract.
-use mathlib.Core.Path.{◌∙◌}
-use borrow.Author.Rules.{rules}
 use Rattle.rounds.proofs.CodeLaws.{copy_stopped, apply_stopped, apply_done}
 use Rattle.rounds.proofs.produce.Goals as goal
 

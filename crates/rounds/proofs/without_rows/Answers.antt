@@ -1,5 +1,4 @@
 -- `rounds::without_rows` meets its contract.
-use borrow.Author.Rules.{rules}
 use Rattle.rounds.proofs.CodeLaws.{rows_dropped}
 use Rattle.rounds.proofs.without_rows.Goals as goal
 

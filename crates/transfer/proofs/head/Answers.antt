@@ -1,7 +1,6 @@
 -- `transfer::head` meets its contract.
 use Rattle.transfer.proofs.CodeLaws.{head_is}
 use Rattle.evaluation.specs.Evaluation.{input}
-use borrow.Author.Rules.{rules}
 use Rattle.transfer.proofs.head.Goals as goal
 
 pub returns : goal.returns

@@ -1,7 +1,6 @@
 -- `transfer::rule` meets its contract.
 use Rattle.transfer.proofs.CodeLaws.{bind_stopped, guards_stopped, guards_done}
 use Rattle.evaluation.specs.Evaluation.{input}
-use borrow.Author.Rules.{rules}
 use Rattle.transfer.proofs.rule.Goals as goal
 
 pub returns-in-Stopped : goal.returns-in-Stopped
