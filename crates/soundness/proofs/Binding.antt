@@ -37,7 +37,7 @@ use Rattle.rules.specs.declared.Binding.{Binding}
 use Rattle.rules.specs.declared.Binding.TheVariants.{Positive, Assign, Range, Aggregate}
 use Rattle.producers.specs.Producer.{Scope, scope}
 use Rattle.producers.proofs.Scoped.{Scoped, BindingIn}
-use Rattle.slots.specs.Slots.{Slots, slots, paying, holding_rows, dropping, putting, settled, replace, meet_into, meet_owned, step, each, tops, meet_argument, marked, mark_dependent}
+use Rattle.slots.specs.Slots.{Slots, paying, holding_rows, dropping, putting, settled, replace, meet_into, meet_owned, step, each, tops, meet_argument, marked, mark_dependent}
 use Rattle.refinements.specs.Refinement.{Refinement}
 use Rattle.operators.specs.Arithmetic.{span}
 use Rattle.evaluation.specs.Evaluation.{Input}

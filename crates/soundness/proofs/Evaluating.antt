@@ -8,12 +8,12 @@ use mathlib.Core.List.{List, [], ◌∷◌}
 use mathlib.Core.Option.{Option, some, none}
 use borrow.Author.Tests.{eqb-true}
 use lib.Dec.{eqb}
-use lib.IntN.{ℤ, pos, neg_ℤ, ◌+ℤ◌, ◌-ℤ◌, +ℤ_invr}
+use lib.IntN.{ℤ, pos, neg_ℤ, ◌-ℤ◌, +ℤ_invr}
 use Rattle.integers.specs.Order.{Number}
 use Rattle.integers.specs.Lists.{All}
 use Rattle.integers.proofs.Tests.{by_cond, and_left, and_right}
 use Rattle.limits.specs.declared.Stop.{Stop}
-use Rattle.limits.specs.Metered.{Metered, ◌>>=◌, ◌>>◌}
+use Rattle.limits.specs.Metered.{Metered, ◌>>=◌}
 use Rattle.limits.specs.Meter.{Meter, work, holding, dropping}
 use Rattle.limits.proofs.Monad.{Ensures, by_pure, by_test, bind, then, weaken, both, for_all, by_through}
 use Rattle.range.specs.declared.Ranged.{Ranged}

@@ -15,7 +15,7 @@ use Rattle.integers.specs.Order.{Number}
 use Rattle.integers.specs.Lists.{All, from}
 use Rattle.integers.proofs.Tests.{and_left, and_right}
 use Rattle.limits.specs.declared.Stop.{Stop}
-use Rattle.limits.specs.Metered.{Metered, pure, ◌>>=◌, ◌>>◌, fold_m}
+use Rattle.limits.specs.Metered.{Metered, pure, ◌>>=◌, fold_m}
 use Rattle.limits.specs.Meter.{work}
 use Rattle.limits.proofs.Monad.{Ensures, by_pure, by_test, then, weaken, both}
 use Rattle.limits.proofs.Ends.{Ends, completes, ends_pure, ends_test, ends_then, ends_bind, ends_through, with_value, in_some_way}

@@ -1,6 +1,6 @@
 -- A run of a store whose tables hold what the accepted calls have said. Completed: its live entries are those of the lists that it reports, and
 -- whatever the plain run reaches lies in what it reports. Stopped: live entries are those of the seeds, and no result is written.
-use Prim.Native.Nat.{ℕ, zero, suc, ◌+◌, ◌-◌, ◌*◌, ◌≤◌}
+use Prim.Native.Nat.{ℕ, zero, suc, ◌+◌, ◌*◌, ◌≤◌}
 use native.Mathlib.Omega.{arith}
 use native.Mathlib.Decide.{ℕ_discrete}
 use mathlib.Core.Path.{◌≡◌, refl, ap, ◌∙◌}

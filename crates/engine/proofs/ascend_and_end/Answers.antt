@@ -1,5 +1,4 @@
 -- `engine::ascend_and_end` meets its contract.
-use borrow.Author.Rules.{rules}
 use Rattle.engine.proofs.CodeLaws.{ascent_stopped, ascent_done}
 use Rattle.engine.proofs.ascend_and_end.Goals as goal
 

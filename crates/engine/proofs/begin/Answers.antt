@@ -1,5 +1,4 @@
 -- `engine::begin` meets its contract.
-use borrow.Author.Rules.{rules}
 use Rattle.thresholds.specs.Thresholds.{entry}
 use Rattle.engine.proofs.CodeLaws.{begin_stopped, seed_stopped, seed_paid}
 use Rattle.engine.proofs.begin.Goals as goal

@@ -1,5 +1,4 @@
 -- `engine::conclude` meets its contract.
-use borrow.Author.Rules.{rules}
 use Rattle.engine.proofs.RunLaws.{concludes_stopped, concludes_done}
 use Rattle.engine.proofs.conclude.Goals as goal
 

@@ -1,5 +1,4 @@
 -- `engine::enter_ends` meets its contract.
-use borrow.Author.Rules.{rules}
 use Rattle.thresholds.specs.Thresholds.{entry}
 use Rattle.engine.proofs.CodeLaws.{ends_stopped, ends_room, ends_on}
 use Rattle.engine.proofs.enter_ends.Goals as goal

@@ -1,5 +1,4 @@
 -- `engine::finish` meets its contract.
-use borrow.Author.Rules.{rules}
 use Rattle.engine.proofs.CodeLaws.{finish_none, finish_some}
 use Rattle.engine.proofs.finish.Goals as goal
 

@@ -1,12 +1,7 @@
 -- `engine::move_cells` meets its contract.
-use Prim.Native.Nat.{◌-◌, ◌≤◌}
 use native.Mathlib.Omega.{arith}
-use mathlib.Core.Path.{◌≡◌, refl, ◌∙◌}
-use borrow.Author.Rules.{rules}
-use lib.ListN.{length}
-use lib.Seq.{sets}
-use Rattle.integers.proofs.Stores.{Writing, writing_none}
-use Rattle.rows.specs.Row.{padded}
+use mathlib.Core.Path.{refl, ◌∙◌}
+use Rattle.integers.proofs.Stores.{writing_none}
 use Rattle.engine.proofs.RunLaws.{cell_moved, cells_moved}
 use Rattle.engine.proofs.move_cells.Goals as goal
 

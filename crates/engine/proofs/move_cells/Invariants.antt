@@ -1,13 +1,10 @@
 -- `engine::move_cells` meets its contract.
 use Prim.Native.Nat.{◌-◌, ◌≤◌}
-use native.Mathlib.Omega.{arith}
-use mathlib.Core.Path.{◌≡◌, refl, ◌∙◌}
-use borrow.Author.Rules.{rules}
+use mathlib.Core.Path.{◌≡◌}
 use lib.ListN.{length}
 use lib.Seq.{sets}
-use Rattle.integers.proofs.Stores.{Writing, writing_none}
+use Rattle.integers.proofs.Stores.{Writing}
 use Rattle.rows.specs.Row.{padded}
-use Rattle.engine.proofs.RunLaws.{cell_moved, cells_moved}
 use Rattle.engine.proofs.move_cells.Given as goal
 
 abbrev pub invariant-loop-i : goal.invariant-loop-i

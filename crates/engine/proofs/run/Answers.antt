@@ -1,6 +1,4 @@
 -- `engine::run` meets its contract.
-use borrow.Author.Rules.{rules}
-use borrow.Author.Tests.{not-true, not-false}
 use lib.ListN.{length}
 use Rattle.engine.specs.Call.{read}
 use Rattle.engine.proofs.RunLaws.{run_sizes, run_results, run_closed, run_full, run_on, run_room}

@@ -1,5 +1,4 @@
 -- `engine::run_open` meets its contract.
-use borrow.Author.Rules.{rules}
 use Rattle.engine.specs.Call.{read}
 use Rattle.engine.proofs.RunLaws.{open_stopped, open_marks, open_taken, open_run}
 use Rattle.engine.proofs.run_open.Goals as goal

@@ -1,5 +1,4 @@
 -- `engine::seed` meets its contract.
-use borrow.Author.Rules.{rules}
 use Rattle.engine.proofs.CodeLaws.{copies_stopped, growth_stopped, growth_paid}
 use Rattle.engine.proofs.seed.Goals as goal
 

@@ -1,5 +1,4 @@
 -- `engine::sized` meets its contract.
-use borrow.Author.Rules.{rules}
 use Rattle.engine.proofs.RunLaws.{sized_nodes, sized_constants, sized_rules, sized_seeds, sized_is}
 use Rattle.engine.proofs.sized.Goals as goal
 

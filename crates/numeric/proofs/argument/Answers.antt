@@ -1,5 +1,4 @@
 -- `numeric::argument` meets its contract.
-use borrow.Author.Rules.{rules}
 use mathlib.Core.Path.{refl}
 use Rattle.numeric.specs.declared.Read.TheVariants.{Given}
 use Rattle.numeric.proofs.ReadingLaws.{argument_down, argument_missing, argument_given}

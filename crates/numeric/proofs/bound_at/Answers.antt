@@ -1,5 +1,4 @@
 -- `numeric::bound_at` meets its contract.
-use borrow.Author.Rules.{rules}
 use Rattle.numeric.proofs.ReadingLaws.{bound_read_lem}
 use Rattle.numeric.proofs.bound_at.Goals as goal
 

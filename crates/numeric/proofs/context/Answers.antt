@@ -3,7 +3,6 @@ use Prim.Native.Nat.{ℕ}
 use mathlib.Core.Path.{ap, ◌∙◌}
 use Rattle.numeric.specs.Reading.{contexts_of, nth}
 use Rattle.numeric.proofs.ReadingLaws.{context_down, context_missing, context_given}
-use borrow.Author.Rules.{rules}
 use Rattle.numeric.proofs.context.Goals as goal
 
 pub returns-then-counts-argument : goal.returns-then-counts-argument

@@ -4,7 +4,6 @@ use mathlib.Core.Path.{ap, ◌∙◌}
 use lib.ListN.{length}
 use Rattle.numeric.specs.Reading.{contexts_of}
 use Rattle.numeric.proofs.ReadingLaws.{count_down, count_missing, count_given}
-use borrow.Author.Rules.{rules}
 use Rattle.numeric.proofs.context_count.Goals as goal
 
 pub returns-then-counts-argument : goal.returns-then-counts-argument

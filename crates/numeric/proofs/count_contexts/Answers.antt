@@ -1,10 +1,9 @@
 -- `numeric::count_contexts` meets its contract.
-use Prim.Native.Nat.{ℕ, ◌-◌, ◌≤◌}
+use Prim.Native.Nat.{ℕ}
 use mathlib.Core.Path.{◌≡◌, sym, ap, ◌∙◌}
 use lib.ListN.{length}
 use Rattle.numeric.specs.Reading.{contexts_of}
 use Rattle.numeric.proofs.ReadingLaws.{none_yet, few, hit_next, miss_next}
-use borrow.Author.Rules.{rules}
 use native.Mathlib.Omega.{arith}
 use Rattle.numeric.proofs.count_contexts.Goals as goal
 use Rattle.numeric.proofs.count_contexts.Goals.{then-is_of, else-is_of}
@@ -25,8 +24,7 @@ loop-i-smaller c = omega arith
 
 pub loop-i-preserved : goal.loop-i-preserved
 loop-i-preserved c =
-    let a = c.args in
-    (
+    let a = c.args in (
       elim c.if-is_of.branch [ then-is_of w ↦ hit_next a.records.now a.argument c.loop-i.i c.is_of.ensures w.if-is_of.true c.loop-i.invariant.0 w.found-is | else-is_of w ↦ miss_next a.records.now a.argument c.loop-i.i c.is_of.ensures w.if-is_of.false c.loop-i.invariant.0 w.found-is ],
       omega arith,
     )

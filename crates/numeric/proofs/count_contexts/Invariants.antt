@@ -1,12 +1,8 @@
 -- `numeric::count_contexts` meets its contract.
-use Prim.Native.Nat.{ℕ, ◌-◌, ◌≤◌}
-use mathlib.Core.Path.{◌≡◌, sym, ap, ◌∙◌}
-use mathlib.Core.Logic.{⊎_elim}
+use Prim.Native.Nat.{◌-◌, ◌≤◌}
+use mathlib.Core.Path.{◌≡◌}
 use lib.ListN.{length}
 use Rattle.numeric.specs.Reading.{contexts_of}
-use Rattle.numeric.proofs.ReadingLaws.{none_yet, few, hit_next, miss_next}
-use borrow.Author.Rules.{rules}
-use native.Mathlib.Omega.{arith}
 use Rattle.numeric.proofs.count_contexts.Given as goal
 
 abbrev pub invariant-loop-i : goal.invariant-loop-i

@@ -1,10 +1,6 @@
 -- `numeric::find_context` meets its contract.
-use Prim.Native.Nat.{◌-◌, ◌≤◌}
-use mathlib.Core.Path.{◌≡◌, sym}
-use lib.ListN.{length}
-use Rattle.numeric.specs.Reading.{contexts_of}
+use mathlib.Core.Path.{sym}
 use Rattle.numeric.proofs.ReadingLaws.{none_yet, few, hit_next, miss_next, found_at, none_left, one_less}
-use borrow.Author.Rules.{rules}
 use native.Mathlib.Omega.{arith}
 use Rattle.numeric.proofs.find_context.Goals as goal
 use Rattle.numeric.proofs.find_context.Goals.{then-is_of+else-found-k, else-is_of}

@@ -1,12 +1,8 @@
 -- `numeric::find_context` meets its contract.
 use Prim.Native.Nat.{◌-◌, ◌≤◌}
-use mathlib.Core.Path.{◌≡◌, sym}
-use mathlib.Core.Logic.{⊎_elim}
+use mathlib.Core.Path.{◌≡◌}
 use lib.ListN.{length}
 use Rattle.numeric.specs.Reading.{contexts_of}
-use Rattle.numeric.proofs.ReadingLaws.{none_yet, few, hit_next, miss_next, found_at, none_left, one_less}
-use borrow.Author.Rules.{rules}
-use native.Mathlib.Omega.{arith}
 use Rattle.numeric.proofs.find_context.Given as goal
 
 abbrev pub invariant-loop-i : goal.invariant-loop-i

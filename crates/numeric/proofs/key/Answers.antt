@@ -1,5 +1,4 @@
 -- `numeric::key` meets its contract.
-use borrow.Author.Rules.{rules}
 use Rattle.numeric.proofs.ReadingLaws.{key_down, key_missing, key_given_lem}
 use Rattle.numeric.proofs.key.Goals as goal
 

@@ -1,5 +1,4 @@
 -- `numeric::kind_of` meets its contract.
-use borrow.Author.Rules.{rules}
 use mathlib.Core.Path.{ap, ◌∙◌}
 use Rattle.integers.proofs.Bits.{back32}
 use Rattle.cells.specs.Cells.{of_cell}

@@ -1,5 +1,4 @@
 -- `numeric::name` meets its contract.
-use borrow.Author.Rules.{rules}
 use mathlib.Core.Path.{ap, ◌∙◌}
 use Rattle.numeric.specs.Answers.{permits}
 use Rattle.numeric.proofs.ReadingLaws.{name_down, name_missing, name_given_lem}

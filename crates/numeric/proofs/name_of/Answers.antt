@@ -1,5 +1,4 @@
 -- `numeric::name_of` meets its contract.
-use borrow.Author.Rules.{rules}
 use mathlib.Core.Path.{◌∙◌}
 use Rattle.numeric.proofs.ReadingLaws.{no_name, a_name}
 use Rattle.numeric.proofs.name_of.Goals as goal

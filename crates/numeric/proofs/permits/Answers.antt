@@ -1,7 +1,5 @@
 -- `numeric::permits` meets its contract.
-use borrow.Author.Rules.{rules}
 use mathlib.Core.Path.{refl}
-use borrow.Author.Tests.{not-true, not-false}
 use Rattle.numeric.proofs.permits.Goals as goal
 
 pub returns-then-not-sized : goal.returns-then-not-sized

@@ -1,5 +1,4 @@
 -- `numeric::place` meets its contract.
-use borrow.Author.Rules.{rules}
 use native.Mathlib.Omega.{arith}
 use mathlib.Core.Path.{refl}
 use Rattle.numeric.proofs.place.Goals as goal

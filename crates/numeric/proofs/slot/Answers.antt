@@ -1,5 +1,4 @@
 -- `numeric::slot` meets its contract.
-use borrow.Author.Rules.{rules}
 use Prim.Native.Nat.{◌<◌, ◌≤◌}
 use mathlib.Core.Path.{ap, subst, ◌∙◌}
 use Rattle.numeric.specs.Reading.{bound_at}

@@ -1,5 +1,4 @@
 -- `numeric::slots_sized` meets its contract.
-use borrow.Author.Rules.{rules}
 use Prim.Native.Nat.{◌*◌}
 use Rattle.rules.specs.Rule.{row}
 use Rattle.numeric.proofs.ReadingLaws.{both_not, both_then}

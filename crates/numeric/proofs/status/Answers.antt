@@ -1,5 +1,4 @@
 -- `numeric::status` meets its contract.
-use borrow.Author.Rules.{rules}
 use mathlib.Core.Path.{refl}
 use Rattle.numeric.proofs.ReadingLaws.{status_in_lem}
 use Rattle.numeric.proofs.status.Goals as goal

@@ -1,7 +1,6 @@
 -- `report::argument_line` meets its contract.
 use Rattle.report.specs.Line.{argument_line}
 use Rattle.report.proofs.LineLaws.{lined_shape, lined_refused, lined_given, argument_lined}
-use borrow.Author.Rules.{rules}
 use Rattle.report.proofs.argument_line.Goals as goal
 
 pub returns-then-line-ne-LINE : goal.returns-then-line-ne-LINE

@@ -2,7 +2,6 @@
 use Rattle.text.proofs.Putting.{puts_then}
 use Rattle.text.proofs.Words.{line_first, line_word, line_words, line_end}
 use Rattle.report.proofs.LineLaws.{count_same}
-use borrow.Author.Rules.{rules}
 use Rattle.report.proofs.put_argument.Goals as goal
 
 pub returns : goal.returns

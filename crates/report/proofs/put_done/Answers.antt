@@ -1,6 +1,5 @@
 -- `report::put_done` meets its contract.
 use Rattle.text.proofs.Words.{line_first, line_word, line_end}
-use borrow.Author.Rules.{rules}
 use Rattle.report.proofs.put_done.Goals as goal
 
 pub returns : goal.returns

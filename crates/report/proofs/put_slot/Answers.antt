@@ -1,7 +1,6 @@
 -- `report::put_slot` meets its contract.
 use Rattle.text.proofs.Words.{line_first, line_word}
 use Rattle.report.proofs.LineLaws.{byte_same, line_last}
-use borrow.Author.Rules.{rules}
 use Rattle.report.proofs.put_slot.Goals as goal
 
 pub returns : goal.returns

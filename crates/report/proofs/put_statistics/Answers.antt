@@ -1,8 +1,6 @@
 -- `report::put_statistics` meets its contract.
 use native.Mathlib.Omega.{arith}
-use Rattle.text.proofs.Putting.{puts_length}
 use Rattle.text.proofs.Words.{line_first, line_word, line_end}
-use borrow.Author.Rules.{rules}
 use Rattle.report.proofs.put_statistics.Goals as goal
 
 pub put_byte-requires : goal.put_byte-requires

@@ -1,7 +1,6 @@
 -- `report::put_stop` meets its contract.
 use Rattle.text.proofs.Words.{line_first}
 use Rattle.report.proofs.LineLaws.{line_last}
-use borrow.Author.Rules.{rules}
 use Rattle.report.proofs.put_stop.Goals as goal
 
 pub returns : goal.returns

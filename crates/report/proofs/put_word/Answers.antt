@@ -1,11 +1,9 @@
 -- `report::put_word` meets its contract.
 use native.Mathlib.Omega.{arith}
-use Prim.Native.Nat.{◌-◌}
-use mathlib.Core.Path.{◌≡◌, refl, ◌∙◌}
-use lib.ListN.{length, get_or, drop, length-set}
-use Rattle.text.proofs.Putting.{Leads, leads_whole}
+use mathlib.Core.Path.{refl, ◌∙◌}
+use lib.ListN.{get_or, length-set}
+use Rattle.text.proofs.Putting.{leads_whole}
 use Rattle.report.proofs.LineLaws.{word_byte, word_end}
-use borrow.Author.Rules.{rules}
 use Rattle.report.proofs.put_word.Goals as goal
 
 pub loop-at-init : goal.loop-at-init

@@ -1,11 +1,8 @@
 -- `report::put_word` meets its contract.
-use native.Mathlib.Omega.{arith}
 use Prim.Native.Nat.{◌-◌}
-use mathlib.Core.Path.{◌≡◌, refl, ◌∙◌}
-use lib.ListN.{length, get_or, drop, length-set}
-use Rattle.text.proofs.Putting.{Leads, leads_whole}
-use Rattle.report.proofs.LineLaws.{word_byte, word_end}
-use borrow.Author.Rules.{rules}
+use mathlib.Core.Path.{◌≡◌}
+use lib.ListN.{length, drop}
+use Rattle.text.proofs.Putting.{Leads}
 use Rattle.report.proofs.put_word.Given as goal
 
 abbrev pub invariant-loop-at : goal.invariant-loop-at

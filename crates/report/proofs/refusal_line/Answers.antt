@@ -1,7 +1,6 @@
 -- `report::refusal_line` meets its contract.
 use Rattle.report.specs.Line.{refusal_line}
 use Rattle.report.proofs.LineLaws.{lined_shape, lined_given, refusal_lined}
-use borrow.Author.Rules.{rules}
 use Rattle.report.proofs.refusal_line.Goals as goal
 
 pub returns-then-line-ne-LINE : goal.returns-then-line-ne-LINE

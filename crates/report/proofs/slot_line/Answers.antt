@@ -1,7 +1,6 @@
 -- `report::slot_line` meets its contract.
 use Rattle.report.specs.Line.{slot_line}
 use Rattle.report.proofs.LineLaws.{lined_shape, lined_refused, lined_given, slot_lined}
-use borrow.Author.Rules.{rules}
 use Rattle.report.proofs.slot_line.Goals as goal
 
 pub returns-then-line-ne-LINE : goal.returns-then-line-ne-LINE

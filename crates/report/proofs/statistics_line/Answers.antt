@@ -1,7 +1,6 @@
 -- `report::statistics_line` meets its contract.
 use Rattle.report.specs.Line.{statistics_line}
 use Rattle.report.proofs.LineLaws.{lined_shape, lined_given, statistics_lined}
-use borrow.Author.Rules.{rules}
 use Rattle.report.proofs.statistics_line.Goals as goal
 
 pub returns-then-line-ne-LINE : goal.returns-then-line-ne-LINE

@@ -1,7 +1,6 @@
 -- `report::status_line` meets its contract.
 use Rattle.report.specs.Line.{status_line}
 use Rattle.report.proofs.LineLaws.{lined_shape, lined_refused, lined_given, status_lined}
-use borrow.Author.Rules.{rules}
 use Rattle.report.proofs.status_line.Goals as goal
 
 pub returns-then-line-ne-LINE : goal.returns-then-line-ne-LINE

@@ -1,5 +1,4 @@
 -- `results::bound_in` meets its contract.
-use borrow.Author.Rules.{rules}
 use Rattle.evaluation.specs.Evaluation.{input}
 use Rattle.rounds.proofs.CodeLaws.{bills_stopped, bills_going}
 use Rattle.results.specs.Result.{bound}

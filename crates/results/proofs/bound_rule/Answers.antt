@@ -1,5 +1,4 @@
 -- `results::bound_rule` meets its contract.
-use borrow.Author.Rules.{rules}
 use Rattle.rules.specs.Read.{slots_at}
 use Rattle.evaluation.specs.Evaluation.{input}
 use Rattle.rounds.proofs.CodeLaws.{locals_stopped, locals_done}

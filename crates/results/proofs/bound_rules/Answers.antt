@@ -1,12 +1,7 @@
 -- `results::bound_rules` meets its contract.
-use Prim.Native.Nat.{◌-◌}
 use native.Mathlib.Omega.{arith}
-use mathlib.Core.Path.{◌≡◌, refl, ◌∙◌}
-use borrow.Author.Rules.{rules}
-use lib.ListN.{length}
-use Rattle.evaluation.specs.Evaluation.{input}
-use Rattle.rounds.proofs.CodeLaws.{Ruling, ruling_begins, ruling_stops, ruling_goes, ruling_ends}
-use Rattle.results.specs.Result.{bound}
+use mathlib.Core.Path.{refl, ◌∙◌}
+use Rattle.rounds.proofs.CodeLaws.{ruling_begins, ruling_stops, ruling_goes, ruling_ends}
 use Rattle.results.proofs.bound_rules.Goals as goal
 
 pub loop-id-init : goal.loop-id-init

@@ -1,11 +1,9 @@
 -- `results::bound_rules` meets its contract.
 use Prim.Native.Nat.{◌-◌}
-use native.Mathlib.Omega.{arith}
-use mathlib.Core.Path.{◌≡◌, refl, ◌∙◌}
-use borrow.Author.Rules.{rules}
+use mathlib.Core.Path.{◌≡◌}
 use lib.ListN.{length}
 use Rattle.evaluation.specs.Evaluation.{input}
-use Rattle.rounds.proofs.CodeLaws.{Ruling, ruling_begins, ruling_stops, ruling_goes, ruling_ends}
+use Rattle.rounds.proofs.CodeLaws.{Ruling}
 use Rattle.results.specs.Result.{bound}
 use Rattle.results.proofs.bound_rules.Given as goal
 

@@ -1,5 +1,4 @@
 -- `results::close` meets its contract.
-use borrow.Author.Rules.{rules}
 use Rattle.evaluation.specs.Evaluation.{input}
 use Rattle.results.proofs.CodeLaws.{rules_stopped, closing_stopped, closing_paid}
 use Rattle.results.proofs.close.Goals as goal

@@ -1,5 +1,4 @@
 -- `results::counted_of` meets its contract.
-use borrow.Author.Rules.{rules}
 use Rattle.results.proofs.CodeLaws.{counted_stopped, counted_going}
 use Rattle.results.proofs.counted_of.Goals as goal
 

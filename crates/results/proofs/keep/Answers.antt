@@ -1,11 +1,7 @@
 -- `results::keep` meets its contract.
-use Prim.Native.Nat.{◌-◌}
 use native.Mathlib.Omega.{arith}
-use mathlib.Core.Path.{◌≡◌, refl, ◌∙◌}
-use borrow.Author.Rules.{rules}
-use lib.ListN.{length}
-use Rattle.slots.proofs.CodeLaws.{Paying, paying_stops, paying_goes, paying_ends, pays_stopped}
-use Rattle.results.specs.Result.{keep}
+use mathlib.Core.Path.{refl, ◌∙◌}
+use Rattle.slots.proofs.CodeLaws.{paying_stops, paying_goes, paying_ends, pays_stopped}
 use Rattle.results.proofs.CodeLaws.{keep_begun, keep_next, keep_none, bound_kept}
 use Rattle.results.proofs.keep.Goals as goal
 

@@ -1,12 +1,9 @@
 -- `results::keep` meets its contract.
 use Prim.Native.Nat.{◌-◌}
-use native.Mathlib.Omega.{arith}
-use mathlib.Core.Path.{◌≡◌, refl, ◌∙◌}
-use borrow.Author.Rules.{rules}
+use mathlib.Core.Path.{◌≡◌}
 use lib.ListN.{length}
-use Rattle.slots.proofs.CodeLaws.{Paying, paying_stops, paying_goes, paying_ends, pays_stopped}
+use Rattle.slots.proofs.CodeLaws.{Paying}
 use Rattle.results.specs.Result.{keep}
-use Rattle.results.proofs.CodeLaws.{keep_begun, keep_next, keep_none, bound_kept}
 use Rattle.results.proofs.keep.Given as goal
 
 abbrev pub invariant-loop-slot : goal.invariant-loop-slot

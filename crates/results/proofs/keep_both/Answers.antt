@@ -1,5 +1,4 @@
 -- `results::keep_both` meets its contract.
-use borrow.Author.Rules.{rules}
 use Rattle.results.proofs.CodeLaws.{both_stopped, both_kept}
 use Rattle.results.proofs.keep_both.Goals as goal
 

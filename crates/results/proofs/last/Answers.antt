@@ -1,5 +1,4 @@
 -- `results::last` meets its contract.
-use borrow.Author.Rules.{rules}
 use Rattle.results.proofs.CodeLaws.{last_stopped, last_closed}
 use Rattle.results.proofs.last.Goals as goal
 

@@ -1,5 +1,4 @@
 -- `results::last_round` meets its contract.
-use borrow.Author.Rules.{rules}
 use Rattle.evaluation.specs.Evaluation.{input}
 use Rattle.rounds.specs.Round.{given}
 use Rattle.results.proofs.CodeLaws.{round_stopped, round_done}

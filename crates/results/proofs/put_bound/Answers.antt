@@ -1,8 +1,6 @@
 -- `results::put_bound` meets its contract.
-use Prim.Native.Nat.{◌<◌}
 use native.Mathlib.Omega.{arith}
 use mathlib.Core.Path.{◌≡◌}
-use borrow.Author.Rules.{rules}
 use Rattle.rows.proofs.CodeLaws.{bound_put}
 use Rattle.results.specs.Result.{place}
 use Rattle.results.proofs.CodeLaws.{place_after, place_before, place_low, put_no_rule, put_no_slot, put_there}
