@@ -1,7 +1,8 @@
 -- What the code's answers are, over plain variables: each way out of `charge`, of `Budget::charge`, and of the small functions around them.
 use Prim.Native.Nat.{ℕ, ◌+◌, ◌-◌, ◌*◌, ◌/◌, ◌%◌, ◌^◌, ◌<◌, ◌≤◌, min}
 use native.Mathlib.Omega.{arith}
-use mathlib.Core.Path.{◌≡◌, sym, ap, ◌∙◌}
+use mathlib.Core.Path.{◌≡◌, refl, sym, ap, ◌∙◌}
+use Rattle.std.proofs.Common.{Result, Ok, Err, is_err}
 use mathlib.Core.Bool.{Bool, true, false, cond}
 use borrow.Author.Tests.{le-leb, lt-leb}
 use lib.Dec.{leb}
@@ -14,22 +15,43 @@ use Rattle.limits.specs.declared.Charged.{Charged}
 use Rattle.limits.specs.declared.Charged.TheVariants.{Paid, Stopped}
 use Rattle.limits.specs.declared.Billed.{Billed}
 use Rattle.limits.specs.declared.Billed.TheVariants.{Paid as Accepted, Stopped as Refused}
-use Rattle.limits.specs.Charge.{stop_of, charge_of}
+use Rattle.limits.specs.Charge.{stop_of, charge_of, sum_of}
 use Rattle.limits.specs.Records.{limit_of, count_of, with_count, with_widened, with_statistics}
-use Rattle.limits.specs.Metered.{Run, going, stopped, Metered, mapped, through}
+use Rattle.limits.specs.Metered.{Run, going, stopped, Metered, answered, mapped, through}
 use Rattle.limits.specs.Budget.{charge, charged, released, widened_once, ran}
 use Rattle.limits.specs.Meter.{Meter, meter, with_meter, holding, dropping}
 use Rattle.limits.specs.Meter as inner
 
 module _ (r : Resource) (old amount limit : ℕ) where
   -- the halves of a sum over the limit
-  pub charge_over : (high low : ℕ) → limit < old + amount → old + amount ≡ high * 2 ^ 64 + low → low < 2 ^ 64 →
-      Stopped (record { resource = r; limit = limit; high = high; low = low }) old ≡ charge_of r old amount limit
-  unfolding charge_of
-  charge_over high low p q b =
+  pub sum_over : (high low : ℕ) → limit < old + amount → old + amount ≡ high * 2 ^ 64 + low → low < 2 ^ 64 →
+      ◌≡◌ {A = Result ℕ Stop} (Err (record { resource = r; limit = limit; high = high; low = low })) (sum_of r old amount limit)
+  unfolding sum_of
+  sum_over high low p q b =
       let e₁ : (old + amount) / 2 ^ 64 ≡ high = omega arith in
       let e₂ : (old + amount) % 2 ^ 64 ≡ low = omega arith in
       rw (lt-leb (old + amount) limit p, e₁, e₂)
+
+  pub sum_within : old + amount ≤ limit → ◌≡◌ {A = Result ℕ Stop} (Ok (old + amount)) (sum_of r old amount limit)
+  unfolding sum_of
+  sum_within p = rw (le-leb (old + amount) limit p)
+
+  -- both words for one charge
+  pub sum_paid : {n : ℕ} → sum_of r old amount limit ≡ Ok n → charge_of r old amount limit ≡ Paid n
+  unfolding sum_of charge_of
+  sum_paid {n} = go (leb (old + amount) limit)
+    where
+      go : (t : Bool) → cond t (Ok (old + amount)) (Err (stop_of r limit (old + amount))) ≡ Ok n → cond t (Paid (old + amount)) (Stopped (stop_of r limit (old + amount)) old) ≡ Paid n
+      go true e = cc
+      go false e = cc
+
+  pub sum_stopped : {s : Stop} → sum_of r old amount limit ≡ Err s → charge_of r old amount limit ≡ Stopped s old
+  unfolding sum_of charge_of
+  sum_stopped {s} = go (leb (old + amount) limit)
+    where
+      go : (t : Bool) → cond t (Ok (old + amount)) (Err (stop_of r limit (old + amount))) ≡ Err s → cond t (Paid (old + amount)) (Stopped (stop_of r limit (old + amount)) old) ≡ Stopped s old
+      go true e = cc
+      go false e = cc
 
   pub charge_within : old + amount ≤ limit → Paid (old + amount) ≡ charge_of r old amount limit
   unfolding charge_of
@@ -131,3 +153,45 @@ module _ {A : Type 0} (n : ℕ) (c : Metered Stop Meter A) (m : Meter) where
 pub meter_is : (w e : ℕ) (b : Budget) {c d : Budget} → c ≡ with_statistics (with_count ValueEntries e b.statistics) b → d ≡ with_statistics (with_count Work w c.statistics) c →
     d ≡ with_meter (meter w b.limits.work e b.limits.entries) b
 meter_is w e b p q = rw (q, p)
+
+-- ---- a meter, charged in place
+
+module _ (amount : ℕ) (m : Meter) where
+  pub meter_paid : {n : ℕ} → sum_of Work m.work amount m.max_work ≡ Ok n → going tt (inner.with_work n m) ≡ inner.work amount m
+  unfolding inner.work
+  meter_paid h = rw (sum_paid Work m.work amount m.max_work h)
+
+  pub meter_stopped : {s : Stop} → sum_of Work m.work amount m.max_work ≡ Err s → stopped s m ≡ inner.work amount m
+  unfolding inner.work
+  meter_stopped h = rw (sum_stopped Work m.work amount m.max_work h)
+
+  pub retain_kept : {n : ℕ} → sum_of ValueEntries m.entries amount m.max_entries ≡ Ok n → going tt (inner.with_entries n m) ≡ inner.retain amount m
+  unfolding inner.retain
+  retain_kept h = rw (sum_paid ValueEntries m.entries amount m.max_entries h)
+
+  pub retain_refused : {s : Stop} → sum_of ValueEntries m.entries amount m.max_entries ≡ Err s → stopped s m ≡ inner.retain amount m
+  unfolding inner.retain
+  retain_refused h = rw (sum_stopped ValueEntries m.entries amount m.max_entries h)
+
+-- what a step answered, while entries are held
+module _ {A : Type 0} (held : ℕ) (m : Meter) where
+  pub held_lost : (x : Result A Stop) → is_err x ≡ true → {m' : Meter} → m' ≡ inner.released held m → answered x m' ≡ inner.held_through held x m
+  unfolding mapped
+  held_lost (Ok a) h e = let z : ◌≡◌ {A = ℕ} 0 1 = cc in absurd (omega arith)
+  held_lost (Err s) h e = rw e
+
+  pub held_kept : (x : Result A Stop) → is_err x ≡ false → answered x m ≡ inner.held_through held x m
+  unfolding mapped
+  held_kept (Ok a) h = refl
+  held_kept (Err s) h = let z : ◌≡◌ {A = ℕ} 0 1 = cc in absurd (omega arith)
+
+-- ---- a budget, charged in place
+
+module _ (r : Resource) (amount : ℕ) (b : Budget) {count limit : ℕ} (c : count ≡ count_of r b.statistics) (l : limit ≡ limit_of r b.limits) where
+  pub pay_paid : {n : ℕ} {s : Statistics} → sum_of r count amount limit ≡ Ok n → s ≡ with_count r n b.statistics → going tt (with_statistics s b) ≡ charge r amount b
+  unfolding charge
+  pay_paid h p = rw (p, ← c, ← l, sum_paid r count amount limit h)
+
+  pub pay_stopped : {s : Stop} → sum_of r count amount limit ≡ Err s → stopped s b ≡ charge r amount b
+  unfolding charge
+  pay_stopped h = rw (← c, ← l, sum_stopped r count amount limit h)

@@ -1,8 +1,10 @@
 -- Charges of one unit each, one after another: where they end, and what the monad makes of them.
-use Prim.Native.Nat.{ℕ, zero, suc, ◌+◌, ◌≤◌, ◌<◌}
+use Prim.Native.Nat.{ℕ, zero, suc, ◌+◌, ◌-◌, ◌≤◌, ◌<◌}
 use native.Mathlib.Omega.{arith}
 use mathlib.Core.Path.{◌≡◌, refl, sym, ap, ◌∙◌}
-use borrow.Author.Tests.{lt-leb}
+use mathlib.Core.Bool.{Bool, true, false}
+use lib.Dec.{leb}
+use borrow.Author.Tests.{lt-leb, leb-true, leb-false}
 use Rattle.limits.specs.declared.Resource.{Resource}
 use Rattle.limits.specs.declared.Resource.TheVariants.{Work}
 use Rattle.limits.specs.declared.Stop.{Stop}
@@ -10,7 +12,7 @@ use Rattle.limits.specs.declared.Charged.{Charged}
 use Rattle.limits.specs.declared.Charged.TheVariants.{Paid, Stopped}
 use Rattle.limits.specs.Charge.{stop_of, charge_of, on_paid, units_of}
 use Rattle.limits.specs.Metered.{Run, going, stopped, Metered, pure, after, ◌>>=◌, ◌>>◌}
-use Rattle.limits.specs.Meter.{Meter, meter, work, units}
+use Rattle.limits.specs.Meter.{Meter, meter, with_work, work, units}
 use Rattle.limits.proofs.Monad.{pure_is, then_on, then_stop}
 use Rattle.limits.proofs.CodeLaws.{charge_within, work_paid, work_stopped}
 
@@ -87,3 +89,25 @@ module _ {A : Type 0} where
   pub units_nothing : (d : Metered Stop Meter A) (s : Meter) → (units 0 >> d) s ≡ d s
   unfolding units ◌>>◌ ◌>>=◌ after pure
   units_nothing d s = refl
+
+-- ---- of a meter charged in place
+
+module _ (n : ℕ) (m : Meter) where
+  pub units_whole : n ≤ m.max_work - m.work → going tt (with_work (m.work + n) m) ≡ units n m
+  units_whole h = go n h
+    where
+      go : (k : ℕ) → k ≤ m.max_work - m.work → going tt (with_work (m.work + k) m) ≡ units k m
+      go zero h = let e : m.work + 0 ≡ m.work = omega arith in rw e (units_paid m.max_work m.entries m.max_entries zero m.work (units_none Work m.max_work m.work refl) refl)
+      go (suc k) h = units_paid m.max_work m.entries m.max_entries (suc k) m.work (units_fit Work m.max_work (suc k) m.work (omega arith)) refl
+
+  pub units_ended : {y : Run Stop Meter (Unit {0})} → m.max_work - m.work < n → y ≡ work 1 (with_work (m.work + (m.max_work - m.work)) m) → y ≡ units n m
+  unfolding work
+  units_ended {y} h k =
+      let z = m.work + (m.max_work - m.work) in
+      let r : charge_of Work z 1 m.max_work ≡ Stopped (stop_of Work m.max_work (z + 1)) z = refused Work m.max_work z (omega arith) in
+      let u : Stopped (stop_of Work m.max_work (z + 1)) z ≡ units_of Work m.work n m.max_work = sym r ∙ cases (leb m.max_work m.work) refl in
+      k ∙ rw r (units_stopped m.max_work m.entries m.max_entries n m.work u refl)
+    where
+      cases : (t : Bool) → leb m.max_work m.work ≡ t → charge_of Work (m.work + (m.max_work - m.work)) 1 m.max_work ≡ units_of Work m.work n m.max_work
+      cases true p = let q = leb-true _ _ p in let e : m.work + (m.max_work - m.work) ≡ m.work = omega arith in units_refused Work m.max_work m.work n q (omega arith) (rw e refl)
+      cases false p = let q = leb-false _ _ p in let e : m.work + (m.max_work - m.work) ≡ m.max_work = omega arith in units_part Work m.max_work (m.max_work - m.work) n m.work (omega arith) h (rw e refl)

@@ -1,5 +1,5 @@
 -- One charge (limits.rs, `check` and `charge_work`). 01: "Charges are refused exactly when old + amount exceeds the limit."
-use Rattle.std.specs.Prelude.{ℕ, zero, suc, ◌+◌, ◌*◌, ◌/◌, ◌%◌, ◌^◌, cond, leb}
+use Rattle.std.specs.Prelude.{ℕ, zero, suc, ◌+◌, ◌*◌, ◌/◌, ◌%◌, ◌^◌, cond, leb, Result, Ok, Err}
 use Rattle.limits.specs.declared.Resource.{Resource}
 use Rattle.limits.specs.declared.Stop.{Stop}
 use Rattle.limits.specs.declared.Charged.{Charged}
@@ -11,6 +11,9 @@ stop_of r limit observed = record { resource = r; limit = limit; high = observed
 
 abbrev pub observed : Stop → ℕ
 observed s = s.high * 2 ^ 64 + s.low
+
+unfoldable pub sum_of : Resource → ℕ → ℕ → ℕ → Result ℕ Stop
+sum_of r old amount limit = cond (leb (old + amount) limit) (Ok (old + amount)) (Err (stop_of r limit (old + amount)))
 
 unfoldable pub charge_of : Resource → ℕ → ℕ → ℕ → Charged
 charge_of r old amount limit = cond (leb (old + amount) limit) (Paid (old + amount)) (Stopped (stop_of r limit (old + amount)) old)

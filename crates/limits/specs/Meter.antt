@@ -1,19 +1,14 @@
 -- The part of a budget that lattice and transfer charge, work and live entries, each beside its limit. Code hands it through as plain numbers.
-use Rattle.std.specs.Prelude.{ℕ, zero, suc, ◌-◌}
+use Rattle.std.specs.Prelude.{ℕ, zero, suc, ◌-◌, Result}
 use Rattle.limits.specs.declared.Resource.TheVariants.{Work, ValueEntries}
 use Rattle.limits.specs.declared.Stop.{Stop}
 use Rattle.limits.specs.declared.Charged.{Charged}
 use Rattle.limits.specs.declared.Charged.TheVariants.{Paid, Stopped}
 use Rattle.limits.specs.declared.Budget.{Budget}
+pub use Rattle.limits.specs.declared.Meter.{Meter}
 use Rattle.limits.specs.Charge.{charge_of}
 use Rattle.limits.specs.Records.{with_count, with_statistics}
-use Rattle.limits.specs.Metered.{Run, going, stopped, Metered, pure, ◌>>◌, on_stop, finally, zoom}
-
-pub record Meter : Type 0 where
-  pub work : ℕ
-  pub max_work : ℕ
-  pub entries : ℕ
-  pub max_entries : ℕ
+use Rattle.limits.specs.Metered.{Run, going, stopped, Metered, answered, mapped, pure, ◌>>◌, on_stop, finally, zoom}
 
 abbrev pub meter : ℕ → ℕ → ℕ → ℕ → Meter
 meter w mw e me = record { work = w; max_work = mw; entries = e; max_entries = me }
@@ -49,6 +44,10 @@ release n m = going tt (released n m)
 -- m while n entries are live that go where m is stopped
 abbrev pub holding : {A : Type 0} → ℕ → Metered Stop Meter A → Metered Stop Meter A
 holding n m = on_stop (released n) m
+
+-- a step's answer in the code, and the meter that it left, while n entries are live that go where it was stopped
+abbrev pub held_through : {A : Type 0} → ℕ → Result A Stop → Meter → Run Stop Meter A
+held_through n x m = mapped (λ t. t) (released n) (λ e. e) (answered x m)
 
 -- m while n entries are live that go whichever way m ends: those of a value in hand that m uses last
 abbrev pub dropping : {A : Type 0} → ℕ → Metered Stop Meter A → Metered Stop Meter A

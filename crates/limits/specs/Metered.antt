@@ -1,10 +1,15 @@
 -- Metered computations: a state is handed through, and whatever stops one stops all that follows, with the state as it then is.
 -- S is what survives a stop (counts; in calls the header and the tables too), E what a computation is stopped with, A its value.
-use Rattle.std.specs.Prelude.{List, [], ◌∷◌}
+use Rattle.std.specs.Prelude.{List, [], ◌∷◌, Result, Ok, Err}
 
 pub data Run (E S A : Type 0) : Type 0 where
   going : A → S → Run E S A
   stopped : E → S → Run E S A
+
+-- the code's answer and the state that it leaves, as what a computation gives
+abbrev pub answered : {E S A : Type 0} → Result A E → S → Run E S A
+answered (Ok a) s = going a s
+answered (Err e) s = stopped e s
 
 abbrev pub Metered : Type 0 → Type 0 → Type 0 → Type 0
 Metered E S A = S → Run E S A

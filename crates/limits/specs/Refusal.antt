@@ -1,10 +1,11 @@
 -- 01, "What a call is turned down with": the number of each refusal, and the values that it carries.
-use Rattle.std.specs.Prelude.{ℕ, List, [], ◌∷◌}
+use Rattle.std.specs.Prelude.{ℕ, List, [], ◌∷◌, Result, Ok, Err}
 use Rattle.limits.specs.declared.Resource.{Resource}
 use Rattle.limits.specs.declared.Resource.TheVariants.{Work, Predicates, Positions, Links, ValueEntries, Rounds, InspectedBytes}
 use Rattle.limits.specs.declared.Refusal.{Refusal}
 use Rattle.limits.specs.declared.Refusal.TheVariants.{Closed, Shape, Full, Limit, Missing, Descending, MissingSlot}
 use Rattle.limits.specs.Charge.{observed}
+use Rattle.limits.specs.Metered.{Run, going, stopped}
 
 abbrev pub resource_number : Resource → ℕ
 resource_number Work = 3
@@ -28,3 +29,8 @@ told (Limit s) = record { number = resource_number s.resource; values = s.limit 
 told Missing = record { number = 5; values = [] }
 told Descending = record { number = 5; values = [] }
 told MissingSlot = record { number = 5; values = [] }
+
+-- a call's answer in the code, and the state that it leaves, as what the call's definition gives: a refusal as 01 tells it
+abbrev pub replied : {S A : Type 0} → Result A Refusal → S → Run Told S A
+replied (Ok a) s = going a s
+replied (Err r) s = stopped (told r) s

@@ -3,11 +3,12 @@
 #![tactic(auto)]
 
 ghost use Rattle.std.specs.Prelude.{◌≡◌, ◌-◌};
-ghost use Rattle.limits.specs.Charge.{charge_of, units_of};
+ghost use Rattle.limits.specs.Charge.{charge_of, units_of, sum_of};
 ghost use Rattle.limits.specs.Records.{count_of, limit_of, with_count, with_statistics, fresh};
 ghost use Rattle.limits.specs.Refusal.{resource_number, told};
 ghost use Rattle.limits.specs.Budget.{ran, charge, released, widened_once};
-ghost use Rattle.limits.specs.Meter.{meter, with_meter};
+ghost use Rattle.limits.specs.Meter.{meter, meter_of, with_meter, units, retain, work as metered_work, released as fewer, held_through};
+ghost use Rattle.limits.specs.Metered.{answered};
 
 // Inclusive ceilings. Beside each stands its name in limits.rs.
 #[derive(Clone, Copy)]
@@ -97,31 +98,98 @@ pub enum Billed {
     Stopped(Stop, Budget),
 }
 
-// A count with `amount` more: refused exactly when the sum exceeds the limit, and then as it was.
-pub fn charge(resource: Resource, old: u64, amount: u64, limit: u64) -> Charged
-    ensures { result ≡ charge_of resource old amount limit }
+// Work and live entries, each beside its limit: all that lattice and transfer charge.
+#[derive(Clone, Copy, Debug, PartialEq, Eq)]
+pub struct Meter {
+    pub work: u64,
+    pub max_work: u64,
+    pub entries: u64,
+    pub max_entries: u64,
+}
+
+// A count with `amount` more: refused exactly when the sum exceeds the limit.
+#[tactic(auto, unfolding(crate::specs::Charge::sum_of), using(crate::proofs::CodeLaws::sum_over, crate::proofs::CodeLaws::sum_within))]
+pub fn add(resource: Resource, old: u64, amount: u64, limit: u64) -> Result<u64, Stop>
+    ensures { result ≡ sum_of resource old amount limit }
 {
-    let room = 18446744073709551615 - old;
-    if room < amount {
-        let wide = Stop {
-            resource,
-            limit,
-            high: 1,
-            low: amount - room - 1,
-        };
-        return Charged::Stopped(wide, old);
-    }
-    let sum = old + amount;
-    if limit < sum {
-        let stop = Stop {
+    match old.checked_add(amount) {
+        Some(sum) if sum <= limit => Ok(sum),
+        Some(sum) => Err(Stop {
             resource,
             limit,
             high: 0,
             low: sum,
-        };
-        return Charged::Stopped(stop, old);
+        }),
+        None => Err(Stop {
+            resource,
+            limit,
+            high: 1,
+            low: old.wrapping_add(amount),
+        }),
     }
-    Charged::Paid(sum)
+}
+
+impl Meter {
+    // A charge of work. A refused one changes nothing.
+    pub fn work(&mut self, amount: u64) -> Result<(), Stop>
+        ensures { answered result self.new ≡ metered_work amount self.old }
+    {
+        self.work = add(Resource::Work, self.work, amount, self.max_work)?;
+        Ok(())
+    }
+
+    // `count` charges of one unit of work each: what a search pays that looks at `count` items. The first that is refused ends them.
+    pub fn units(&mut self, count: u64) -> Result<(), Stop>
+        ensures { answered result self.new ≡ units count self.old }
+    {
+        let room = self.max_work.saturating_sub(self.work);
+        if room < count {
+            self.work += room;
+            return self.work(1);
+        }
+        self.work += count;
+        Ok(())
+    }
+
+    // `count` live entries more. A refused charge changes nothing.
+    pub fn retain(&mut self, count: u64) -> Result<(), Stop>
+        ensures { answered result self.new ≡ retain count self.old }
+    {
+        self.entries = add(
+            Resource::ValueEntries,
+            self.entries,
+            count,
+            self.max_entries,
+        )?;
+        Ok(())
+    }
+
+    // `count` live entries fewer. Counts that no calls make stay at 0.
+    pub fn release(&mut self, count: u64)
+        ensures { self.new ≡ fewer count self.old }
+    {
+        self.entries = self.entries.saturating_sub(count);
+    }
+
+    // What a step answered while `held` entries were live, which go where it was refused.
+    pub fn holding<T: Copy>(&mut self, held: u64, step: Result<T, Stop>) -> Result<T, Stop>
+        ensures { answered result self.new ≡ held_through held step self.old }
+    {
+        if step.is_err() {
+            self.release(held);
+        }
+        step
+    }
+}
+
+// A count with `amount` more: refused exactly when the sum exceeds the limit, and then as it was.
+pub fn charge(resource: Resource, old: u64, amount: u64, limit: u64) -> Charged
+    ensures { result ≡ charge_of resource old amount limit }
+{
+    match add(resource, old, amount, limit) {
+        Ok(sum) => Charged::Paid(sum),
+        Err(stop) => Charged::Stopped(stop, old),
+    }
 }
 
 // `count` charges of one unit each: what a search pays that looks at `count` items. The first that is refused ends them.
@@ -275,6 +343,54 @@ impl Budget {
                 widened: 0,
             },
         }
+    }
+
+    // A charge of one resource. A refused one changes nothing.
+    pub fn pay(&mut self, resource: Resource, amount: u64) -> Result<(), Stop>
+        ensures { answered result self.new ≡ charge resource amount self.old }
+    {
+        let count = add(
+            resource,
+            self.statistics.of(resource),
+            amount,
+            self.limits.of(resource),
+        )?;
+        self.statistics = self.statistics.with(resource, count);
+        Ok(())
+    }
+
+    // `count` live entries fewer.
+    pub fn release_entries(&mut self, count: u64)
+        ensures { self.new ≡ released count self.old }
+    {
+        self.statistics.entries = self.statistics.entries.saturating_sub(count);
+    }
+
+    // One argument more has lost its list. The count has no limit: it stays at the largest number.
+    pub fn count_widened(&mut self)
+        ensures { self.new ≡ widened_once self.old }
+    {
+        self.statistics.widened = self.statistics.widened.saturating_add(1);
+    }
+
+    // What lattice and transfer charge.
+    pub fn meter(&self) -> Meter
+        ensures { result ≡ meter_of self.now }
+    {
+        Meter {
+            work: self.statistics.work,
+            max_work: self.limits.work,
+            entries: self.statistics.entries,
+            max_entries: self.limits.entries,
+        }
+    }
+
+    // What was charged on a meter.
+    pub fn settle(&mut self, meter: Meter)
+        ensures { self.new ≡ with_meter meter self.old }
+    {
+        self.statistics.work = meter.work;
+        self.statistics.entries = meter.entries;
     }
 
     // The same budget but for one resource's count.

@@ -1,15 +1,10 @@
 -- `limits::charge` meets its contract.
-use native.Mathlib.Omega.{arith}
-use Rattle.limits.proofs.CodeLaws.{charge_over, charge_within}
+use Rattle.std.proofs.Common.{sym, ◌∙◌}
+use Rattle.limits.proofs.CodeLaws.{sum_paid, sum_stopped}
 use Rattle.limits.proofs.charge.Goals as goal
 
-pub returns-then-room-amount : goal.returns-then-room-amount
-returns-then-room-amount c = let a = c.args in charge_over a.resource a.old a.amount a.limit _ _ (omega arith) (omega arith) (omega arith)
+pub returns-in-Ok : goal.returns-in-Ok
+returns-in-Ok c = sym (sum_paid _ _ _ _ (sym c.add.ensures ∙ c.in-Ok.is))
 
-pub returns-then-limit-sum : goal.returns-then-limit-sum
-returns-then-limit-sum c =
-    let a = c.args in
-    charge_over a.resource a.old a.amount a.limit _ _ (omega arith) (omega arith) (omega arith)
-
-pub returns : goal.returns
-returns c = let a = c.args in charge_within a.resource a.old a.amount a.limit (omega arith)
+pub returns-in-Err : goal.returns-in-Err
+returns-in-Err c = sym (sum_stopped _ _ _ _ (sym c.add.ensures ∙ c.in-Err.is))
