@@ -8,18 +8,18 @@ ghost use Rattle.provenance.specs.Provenance.{recordable, Room};
 ghost use Rattle.provenance.specs.Answers.{Recorded};
 
 use limits::{Refusal, Resource};
-use store::{Context, Done, Store};
+use store::{Done, Store};
 
 // The records that the table has rows for.
 pub const RECORDS: usize = 1024;
 
 // Whether the table has room for what one call records.
-pub fn is_recordable(context: Context, standing: usize) -> bool
+pub fn is_recordable(context: Option<u32>, standing: usize) -> bool
     ensures { result ≡ recordable context standing }
 {
     match context {
-        Context::None => true,
-        Context::Some(_) => standing <= 1008,
+        None => true,
+        Some(_) => standing <= 1008,
     }
 }
 
@@ -53,8 +53,8 @@ pub fn provenance(store: Store, argument: u64, table: &mut [u32]) -> Done
         return Done::Refused(Refusal::Missing, store);
     }
     match context {
-        Context::None => Done::Ok(store),
-        Context::Some(number) => match store.charge(Resource::Links, 1) {
+        None => Done::Ok(store),
+        Some(number) => match store.charge(Resource::Links, 1) {
             Done::Refused(refusal, kept) => Done::Refused(refusal, kept),
             Done::Ok(paid) => {
                 put_record(table, counts.provenance, argument as u32, number);
