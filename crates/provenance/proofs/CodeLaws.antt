@@ -41,6 +41,10 @@ two_cells t n a c p q = rw (q, p, add-one (2 * n))
 in_force : (a : ℕ) (r : Records) {context : Context} {c : ℕ} {x : Run Told Records (Unit {0})} → context ≡ Some c → x ≡ (paying (links 1) >> add_record a c) r → x ≡ record_in a context r
 in_force a r e h = rw e h
 
+pub provenance_none : (a : ℕ) (s : Store) (t : List ℕ) → a < s.counts.positions → s.context ≡ None → going tt (records s t) ≡ provenance a (records s t)
+unfolding provenance pure
+provenance_none a s t h e = rw (lt-ltb a s.counts.positions h, e)
+
 module _ (a : ℕ) (s : Store) (t : List ℕ) (h : a < s.counts.positions) {c : ℕ} (e : s.context ≡ Some c) where
   pub provenance_unpaid : (x : Refusal) {u : Store} → stopped (told x) u ≡ charged (links 1) s → stopped (told x) (records u t) ≡ provenance a (records s t)
   unfolding provenance
