@@ -23,7 +23,7 @@ use Rattle.limits.specs.Metered.{Run, going, stopped, pure, after, ◌>>=◌, �
 use Rattle.limits.specs.Meter.{meter, meter_of}
 use Rattle.limits.specs.Budget.{work, links, ran}
 use Rattle.limits.proofs.Monad.{then_stop, then_on}
-use Rattle.search.specs.declared.Ordering.TheVariants.{Less, Equal, Greater}
+use Rattle.std.specs.declared.cmp.Ordering.TheVariants.{Less, Equal, Greater}
 use Rattle.search.specs.Seek.{seek, compareℤ}
 use Rattle.search.proofs.Complete.{absent_within}
 use Rattle.search.specs.declared.Sought.{Sought}
