@@ -5,4 +5,4 @@ use Rattle.thresholds.proofs.seek_number.Goals as goal
 
 pub returns : goal.returns
 unfolding seek_number
-returns c = c.seek.ensures (against c.args.table.now c.args.value) (record { at = λ i r h k. ? })
+returns c = c.seek.ensures (against c.args.table.now c.args.value) (record { at = λ i r h k. search rules })
