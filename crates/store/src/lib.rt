@@ -234,7 +234,7 @@ impl Store {
     {
         let budget = self.budget;
         let counts = self.counts;
-        match thresholds::enter_around(table, counts.thresholds, value, budget) {
+        match thresholds::enter_around_counted(table, counts.thresholds, value, budget) {
             Entered::Done(paid, count) => {
                 let store = self.with_budget(paid);
                 Done::Ok(store.with_thresholds(count))

@@ -3,7 +3,7 @@
 
 ghost use Rattle.std.specs.Prelude.{◌≡◌, ◌+◌, ◌≤◌, ◌<◌, length};
 ghost use Rattle.limits.specs.Metered.{answered};
-ghost use Rattle.thresholds.specs.Thresholds.{entry, seek_number, cost, enter, around};
+ghost use Rattle.thresholds.specs.Thresholds.{entry, seek_number, cost, enter, enter_some, around};
 ghost use Rattle.thresholds.specs.Answers.{entered};
 
 use limits::{Budget, Meter, Resource, Stop};
@@ -50,6 +50,22 @@ pub fn enter(
     Ok(())
 }
 
+// A number, if there is one.
+fn enter_some(
+    table: &mut [i32],
+    count: &mut usize,
+    value: Option<i32>,
+    budget: &mut Budget,
+) -> Result<(), Stop>
+    requires { count.old < length table.old }
+    ensures { answered result (entry budget.new count.new table.new) ≡ enter_some value (entry budget.old count.old table.old) }
+{
+    match value {
+        Some(value) => enter(table, count, value, budget),
+        None => Ok(()),
+    }
+}
+
 // `thresholds`: the value and its neighbours. One that needs more than 32 bits is passed over.
 pub fn enter_around(
     table: &mut [i32],
@@ -60,14 +76,9 @@ pub fn enter_around(
     requires { count.old + 3 ≤ length table.old }
     ensures { answered result (entry budget.new count.new table.new) ≡ around value (entry budget.old count.old table.old) }
 {
-    if let Some(below) = value.checked_sub(1) {
-        enter(table, count, below, budget)?;
-    }
+    enter_some(table, count, value.checked_sub(1), budget)?;
     enter(table, count, value, budget)?;
-    if let Some(above) = value.checked_add(1) {
-        enter(table, count, above, budget)?;
-    }
-    Ok(())
+    enter_some(table, count, value.checked_add(1), budget)
 }
 
 // What is left: the budget, and how many thresholds stand.
