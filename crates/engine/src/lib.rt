@@ -15,7 +15,7 @@ ghost use Rattle.engine.specs.Answers.{started, begun, progressed, Concludes, on
 
 use limits::{Billed, Budget, Refusal, Resource};
 use rounds::Ran;
-use store::{Context, Counts, Done, Phase, Store};
+use store::{Counts, Done, Phase, Store};
 use thresholds::Entered;
 
 // Two cells for each argument.
@@ -91,7 +91,7 @@ fn ascend_and_end(
     growth: &mut [u32],
     bounds: &mut [u32],
     budget: Budget,
-    context: Context,
+    context: Option<u32>,
 ) -> Ran
     ensures { progressed result current.new growth.new bounds.new ≡ ascend_and_end (given (input nodes.now constants.now budget.limits.width) rules.now count seeds.now positions) thresholds.now (progress budget context current.old growth.old bounds.old) }
 {
@@ -119,7 +119,7 @@ fn finish(
     growth: &mut [u32],
     bounds: &mut [u32],
     budget: Budget,
-    context: Context,
+    context: Option<u32>,
 ) -> Ran
     ensures { progressed result current.new growth.new bounds.new ≡ finish (given (input nodes.now constants.now budget.limits.width) rules.now count seeds.now positions) thresholds.now (progress budget context current.old growth.old bounds.old) }
 {

@@ -100,16 +100,3 @@ pub fn enter_counted(table: &mut [i32], count: usize, value: i32, budget: Budget
         Err(stop) => Entered::Stopped(stop, left, n),
     }
 }
-
-// `enter_around` over counts by value.
-pub fn enter_around_counted(table: &mut [i32], count: usize, value: i32, budget: Budget) -> Entered
-    requires { count + 3 ≤ length table.old }
-    ensures { entered result table.new ≡ around value (entry budget count table.old) }
-{
-    let mut n = count;
-    let mut left = budget;
-    match enter_around(table, &mut n, value, &mut left) {
-        Ok(()) => Entered::Done(left, n),
-        Err(stop) => Entered::Stopped(stop, left, n),
-    }
-}
