@@ -26,9 +26,9 @@ fn enter_ends(table: &mut [i32], count: usize, budget: Budget) -> Entered
     requires { count + 2 ≤ length table.old }
     ensures { entered result table.new ≡ enter_ends (entry budget count table.old) }
 {
-    match thresholds::enter(table, count, -2147483648, budget) {
+    match thresholds::enter_counted(table, count, -2147483648, budget) {
         Entered::Stopped(stop, kept, n) => Entered::Stopped(stop, kept, n),
-        Entered::Done(paid, n) => thresholds::enter(table, n, 2147483647, paid),
+        Entered::Done(paid, n) => thresholds::enter_counted(table, n, 2147483647, paid),
     }
 }
 

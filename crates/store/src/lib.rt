@@ -13,7 +13,6 @@ ghost use Rattle.thresholds.specs.Thresholds.{around};
 
 use lattice::Abstract;
 use limits::{Budget, Limits, Refusal, Resource, Stop};
-use thresholds::Entered;
 
 // Where a store stands. A stopped run keeps its Stop and the context in force there.
 #[derive(Clone, Copy, Debug, PartialEq, Eq)]
@@ -155,18 +154,8 @@ impl Store {
         requires { self.old.counts.thresholds + 3 ≤ length table.old }
         ensures { replied result (marks self.new table.new) ≡ entering (around value) (marks self.old table.old) }
     {
-        match thresholds::enter_around(table, self.counts.thresholds, value, self.budget) {
-            Entered::Done(paid, count) => {
-                self.budget = paid;
-                self.counts.thresholds = count;
-                Ok(())
-            }
-            Entered::Stopped(stop, paid, count) => {
-                self.budget = paid;
-                self.counts.thresholds = count;
-                Err(Refusal::Limit(stop))
-            }
-        }
+        thresholds::enter_around(table, &mut self.counts.thresholds, value, &mut self.budget)?;
+        Ok(())
     }
 
     // The caller's own work.

@@ -1,12 +1,13 @@
 -- `store::Store::enter` meets its contract.
 use mir.Facts.{to_z-of_z}
+use Rattle.limits.proofs.Answering.{limits}
 use Rattle.thresholds.specs.Thresholds.{around}
-use Rattle.thresholds.proofs.CodeLaws.{went, halted}
 use Rattle.store.proofs.CodeLaws.{entered_on, entered_off}
 use Rattle.store.proofs.Store.enter.Goals as goal
 
-pub returns-in-Done : goal.returns-in-Done
-returns-in-Done c = entered_on (around c.args.value) c.args.self.now c.args.table.now (went c.in-Done.is (rw (to_z-of_z c.ranges.value) at c.enter_around.ensures))
+pub returns-in_err-enter_around : goal.returns-in_err-enter_around
+returns-in_err-enter_around c =
+    limits _ _ c.from_residual.ensures.1 (entered_off (around c.args.value) c.args.self.now c.args.table.now (rw (to_z-of_z c.ranges.value) at c.in_err-enter_around.ensures))
 
-pub returns-in-Stopped : goal.returns-in-Stopped
-returns-in-Stopped c = entered_off (around c.args.value) c.args.self.now c.args.table.now (halted c.in-Stopped.is (rw (to_z-of_z c.ranges.value) at c.enter_around.ensures))
+pub returns : goal.returns
+returns c = entered_on (around c.args.value) c.args.self.now c.args.table.now (rw (to_z-of_z c.ranges.value) at c.in_ok-enter_around.ensures)
