@@ -11,6 +11,7 @@ use Rattle.limits.specs.Meter.{released, holding, held_through}
 use Rattle.limits.proofs.Monad.{through_is}
 use Rattle.limits.specs.Refusal.{Told, told, replied}
 use Rattle.limits.specs.declared.Refusal.{Refusal}
+use Rattle.limits.specs.declared.Refusal.TheVariants.{Limit}
 
 module _ {E S A : Type 0} {r : Result A E} {s : S} {y : Run E S A} (h : answered r s ≡ y) where
   pub went : {a : A} → r ≡ Ok a → going a s ≡ y
@@ -28,6 +29,11 @@ module _ {E S A : Type 0} {s : S} {y : Run E S A} where
 module _ {A : Type 0} (n : ℕ) (c : Metered Stop Meter A) (m : Meter) where
   pub held_is : (x : Result A Stop) (m' : Meter) → answered x m' ≡ c m → held_through n x m' ≡ holding n c m
   held_is x m' h = through_is (λ s. s) (λ _ t. t) (λ _ t. released n t) (λ e. e) c m h
+
+-- the exit of a `?` that makes a refusal of a stop
+module _ {S A : Type 0} {s : S} {y : Run Told S A} where
+  pub limits : (x : Result A Refusal) (e : Stop) → IsErrAnd x (λ d. d ≡ Limit e) → stopped (told (Limit e)) s ≡ y → replied x s ≡ y
+  limits x e h k = let p = err_from_is_err_and x h in rw (p.1, p.2) k
 
 -- ---- the same for calls, whose refusals are told by number and values
 
