@@ -22,9 +22,9 @@ use Rattle.limits.proofs.CodeLaws.{hold_on, hold_stop}
 use Rattle.interval.specs.declared.Interval.TheVariants.{Bounded}
 use Rattle.interval.specs.declared.Constant.{Constant}
 use Rattle.lattice.specs.declared.Abstract.{Abstract}
-use Rattle.lattice.specs.declared.Outcome.{Outcome}
-use Rattle.lattice.specs.declared.Outcome.TheVariants.{Done, Stopped}
-use Rattle.lattice.specs.declared.Made.{Made}
+use Rattle.lattice.specs.declared.bridge.Outcome.{Outcome}
+use Rattle.lattice.specs.declared.bridge.Outcome.TheVariants.{Done, Stopped}
+use Rattle.lattice.specs.declared.bridge.Made.{Made}
 use Rattle.lattice.specs.Value.{Value, value_of}
 use Rattle.lattice.specs.Constants.{constant_at}
 use Rattle.lattice.specs.Lattice.{numeric, constant, join}

@@ -4,8 +4,8 @@ use Rattle.limits.specs.declared.Stop.{Stop}
 use Rattle.limits.specs.declared.Budget.{Budget}
 use Rattle.limits.specs.Refusal.{Told, told}
 use Rattle.limits.specs.Metered.{Run, going, stopped, Metered, ◌>>◌}
-use Rattle.lattice.specs.declared.Outcome.{Outcome}
-use Rattle.lattice.specs.declared.Outcome.TheVariants.{Done, Stopped}
+use Rattle.lattice.specs.declared.bridge.Outcome.{Outcome}
+use Rattle.lattice.specs.declared.bridge.Outcome.TheVariants.{Done, Stopped}
 use Rattle.lattice.specs.Value.{Value, value_of}
 use Rattle.thresholds.specs.Thresholds.{around}
 use Rattle.store.specs.declared.Store.{Store}

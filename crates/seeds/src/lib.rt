@@ -48,7 +48,7 @@ fn join_seed(old: Abstract, value: Abstract, budget: Budget) -> Joined
 {
     let limits = budget.limits;
     let statistics = budget.statistics;
-    let made = old.join(
+    let made = old.join_counted(
         value,
         limits.width,
         statistics.work,
@@ -101,7 +101,7 @@ fn constant_value(constants: &[u32], id: u16, budget: Budget) -> Joined
 {
     let limits = budget.limits;
     let statistics = budget.statistics;
-    let made = Abstract::constant(
+    let made = Abstract::constant_counted(
         id,
         lattice::constant_at(constants, id),
         limits.width,

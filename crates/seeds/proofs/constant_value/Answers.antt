@@ -3,4 +3,4 @@ use Rattle.seeds.proofs.CodeLaws.{constant_made}
 use Rattle.seeds.proofs.constant_value.Goals as goal
 
 pub returns : goal.returns
-returns c = constant_made c.args.constants.now c.args.id c.args.budget c.constant-made.result c.constant_at.ensures c.constant-made.ensures c.with_meter.ensures
+returns c = constant_made c.args.constants.now c.args.id c.args.budget c.constant_counted-made.result c.constant_at.ensures c.constant_counted-made.ensures c.with_meter.ensures
