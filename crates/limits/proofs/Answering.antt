@@ -1,12 +1,12 @@
 -- What follows from a clause `answered r s ≡ y`, at each way out of the code.
 use Prim.Native.Nat.{ℕ}
-use mathlib.Core.Path.{◌≡◌, sym, ap, ◌∙◌}
+use mathlib.Core.Path.{◌≡◌, refl, sym, ap, ◌∙◌}
 use Rattle.std.proofs.Common.{Result, Ok, Err}
 use Rattle.std.specs.Prelude.{IsErrAnd}
 use Rattle.std.proofs.lemmas.Result.{err_from_is_err_and}
 use Rattle.limits.specs.declared.Stop.{Stop}
 use Rattle.limits.specs.declared.Meter.{Meter}
-use Rattle.limits.specs.Metered.{Run, going, stopped, Metered, answered}
+use Rattle.limits.specs.Metered.{Run, going, stopped, Metered, answered, mapped, through, zoom}
 use Rattle.limits.specs.Meter.{released, holding, held_through}
 use Rattle.limits.proofs.Monad.{through_is}
 use Rattle.limits.specs.Refusal.{Told, told, replied}
@@ -47,3 +47,13 @@ module _ {S A : Type 0} {r : Result A Refusal} {s : S} {y : Run Told S A} (h : r
 module _ {S A : Type 0} {s : S} {y : Run Told S A} where
   pub refuses : (x : Result A Refusal) (e : Refusal) → IsErrAnd x (λ d. d ≡ e) → stopped (told e) s ≡ y → replied x s ≡ y
   refuses x e h k = let p = err_from_is_err_and x h in rw (p.1, p.2) k
+
+-- what a call answers on a part of the state
+module _ {S T A : Type 0} (get : S → T) (put : T → S → S) (m : Metered Told T A) (s : S) where
+  pub replied_through : (r : Result A Refusal) (t : T) → replied r t ≡ m (get s) → replied r (put t s) ≡ zoom get put m s
+  unfolding through mapped
+  replied_through r t h = rw (← h) (go r)
+    where
+      go : (r : Result A Refusal) → replied r (put t s) ≡ mapped (λ u. put u s) (λ u. put u s) (λ e. e) (replied r t)
+      go (Ok a) = refl
+      go (Err e) = refl
