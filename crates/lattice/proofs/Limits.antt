@@ -22,8 +22,8 @@ use Rattle.interval.specs.declared.Constant.TheVariants.{Number, Name, Large}
 use Rattle.interval.specs.declared.Interval.{Interval}
 use Rattle.interval.specs.Bound.{bottom_of, hull_bound, meet_bound, same_bound, allows_of}
 use Rattle.interval.specs.Bound as bounds
-use Rattle.search.specs.declared.Ordering.{Ordering}
-use Rattle.search.specs.declared.Ordering.TheVariants.{Less, Equal, Greater}
+use Rattle.std.specs.declared.cmp.Ordering.{Ordering}
+use Rattle.std.specs.declared.cmp.Ordering.TheVariants.{Less, Equal, Greater}
 use Rattle.search.specs.Seek.{found, absent, found?, by, middle, seek}
 use Rattle.lists.specs.declared.bridge.Verdict.{Verdict}
 use Rattle.lists.specs.declared.bridge.Verdict.TheVariants.{Yes, No}
