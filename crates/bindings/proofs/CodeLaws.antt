@@ -7,7 +7,8 @@ use Rattle.limits.specs.declared.Charged.{Charged}
 use Rattle.limits.specs.declared.Charged.TheVariants.{Paid}
 use Rattle.limits.specs.declared.Charged.TheVariants as charged
 use Rattle.limits.specs.Metered.{Run, going, stopped, pure, after, ◌>>=◌, mapped, through}
-use Rattle.limits.specs.Meter.{Meter, meter, dropping}
+use Rattle.limits.specs.declared.Meter.{Meter}
+use Rattle.limits.specs.Meter.{meter, dropping}
 use Rattle.limits.proofs.Monad.{bind_stop, bind_on, then_stop, then_on, through_on, through_stop, pure_is}
 use Rattle.limits.proofs.CodeLaws.{drop_on}
 use Rattle.interval.specs.declared.Interval.{Interval}

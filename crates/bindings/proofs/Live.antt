@@ -9,7 +9,7 @@ use lib.ListN.{length}
 use Rattle.integers.specs.Lists.{All}
 use Rattle.limits.specs.declared.Stop.{Stop}
 use Rattle.limits.specs.Metered.{Metered, pure, mapped, through}
-use Rattle.limits.specs.Meter.{Meter}
+use Rattle.limits.specs.declared.Meter.{Meter}
 use Rattle.limits.proofs.Monad as monad
 use Rattle.limits.proofs.Monad.{Ensures, by_pure, by_through}
 use Rattle.limits.proofs.Ends.{Ends, ends_then, ends_bind}

@@ -3,7 +3,7 @@ use Prim.Native.Nat.{ℕ}
 use mathlib.Core.List.{List, []}
 use Rattle.limits.specs.declared.Stop.{Stop}
 use Rattle.limits.specs.Metered.{Metered, ◌>>=◌}
-use Rattle.limits.specs.Meter.{Meter}
+use Rattle.limits.specs.declared.Meter.{Meter}
 use Rattle.limits.proofs.Monad.{Steady, steady_pure, steady_bind, steady_through}
 use Rattle.limits.proofs.Alike.{on_pure, on_look, on_bind, on_then}
 use Rattle.lattice.specs.Value.{Value}

@@ -2,7 +2,7 @@
 use Rattle.std.specs.Prelude.{ℕ, List}
 use Rattle.limits.specs.declared.Stop.{Stop}
 use Rattle.limits.specs.Metered.{Run, after, mapped}
-use Rattle.limits.specs.Meter.{Meter}
+use Rattle.limits.specs.declared.Meter.{Meter}
 use Rattle.lattice.specs.Value.{Value}
 use Rattle.slots.specs.Slots.{Slots, slots, meet_owned}
 

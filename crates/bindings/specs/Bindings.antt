@@ -3,7 +3,8 @@
 use Rattle.std.specs.Prelude.{ℕ, List, []}
 use Rattle.limits.specs.declared.Stop.{Stop}
 use Rattle.limits.specs.Metered.{Metered, pure, ◌>>=◌, ◌>>◌}
-use Rattle.limits.specs.Meter.{Meter, dropping}
+use Rattle.limits.specs.declared.Meter.{Meter}
+use Rattle.limits.specs.Meter.{dropping}
 use Rattle.interval.specs.declared.Interval.TheVariants.{Unbounded}
 use Rattle.lattice.specs.declared.Widening.TheVariants.{HeadTerm}
 use Rattle.lattice.specs.declared.Reason.TheVariants.{Some}

@@ -18,7 +18,8 @@ use Rattle.limits.specs.declared.Stop.{Stop}
 use Rattle.limits.specs.declared.Charged.TheVariants.{Paid, Stopped}
 use Rattle.limits.specs.Charge.{stop_of, charge_of}
 use Rattle.limits.specs.Metered.{Run, going, stopped, Metered, pure, ◌>>◌}
-use Rattle.limits.specs.Meter.{Meter, with_work, charged, work}
+use Rattle.limits.specs.declared.Meter.{Meter}
+use Rattle.limits.specs.Meter.{with_work, charged, work}
 use Rattle.limits.proofs.Monad.{Holds, Ensures, weaken}
 use Rattle.limits.proofs.Ends.{Ends, completes, stops, ends_pure, ends_then}
 use Rattle.search.specs.declared.Ordering.{Ordering}

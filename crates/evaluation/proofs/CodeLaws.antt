@@ -14,7 +14,8 @@ use Rattle.limits.specs.declared.Charged.TheVariants.{Paid}
 use Rattle.limits.specs.declared.Charged.TheVariants as charged
 use Rattle.limits.specs.Charge.{charge_of}
 use Rattle.limits.specs.Metered.{Run, going, stopped, Metered, pure, after, ◌>>=◌, ◌>>◌, mapped, through}
-use Rattle.limits.specs.Meter.{Meter, meter, work, holding, dropping}
+use Rattle.limits.specs.declared.Meter.{Meter}
+use Rattle.limits.specs.Meter.{meter, work, holding, dropping}
 use Rattle.limits.proofs.Monad.{bind_stop, bind_on, then_stop, then_on, pure_is, yes_on, no_on, Holds, Ensures, any_value, by_pure, by_through, bind, then}
 use Rattle.limits.proofs.CodeLaws.{work_paid, work_stopped, hold_on, hold_stop}
 use Rattle.interval.specs.declared.Interval.{Interval}

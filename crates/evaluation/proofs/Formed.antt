@@ -7,7 +7,8 @@ use Rattle.integers.specs.Lists.{All}
 use Rattle.integers.proofs.Tests.{by_cond}
 use Rattle.limits.specs.declared.Stop.{Stop}
 use Rattle.limits.specs.Metered.{Metered}
-use Rattle.limits.specs.Meter.{Meter, work}
+use Rattle.limits.specs.declared.Meter.{Meter}
+use Rattle.limits.specs.Meter.{work}
 use Rattle.limits.proofs.Monad.{Ensures, by_pure, by_test, by_through, any_value, bind, then}
 use Rattle.interval.specs.declared.Interval.{Interval}
 use Rattle.interval.specs.declared.Interval.TheVariants.{Bottom}

@@ -6,7 +6,7 @@ use mathlib.Core.List.{List}
 use lib.Dec.{eqb}
 use Rattle.limits.specs.declared.Stop.{Stop}
 use Rattle.limits.specs.Metered.{Metered}
-use Rattle.limits.specs.Meter.{Meter}
+use Rattle.limits.specs.declared.Meter.{Meter}
 use Rattle.limits.proofs.Live.{Lives, live_pure, live_test, live_bind, live_then, live_work, live_as, live_holding, live_dropping}
 use Rattle.interval.specs.declared.Interval.{Interval}
 use Rattle.lattice.specs.declared.Widening.{Widening}

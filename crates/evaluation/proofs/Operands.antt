@@ -14,7 +14,8 @@ use Rattle.limits.specs.declared.Charged.TheVariants.{Paid}
 use Rattle.limits.specs.declared.Charged.TheVariants as charged
 use Rattle.limits.specs.Charge.{charge_of}
 use Rattle.limits.specs.Metered.{Run, going, stopped, Metered, pure, after, ◌>>=◌, ◌>>◌, fold_m, mapped, through}
-use Rattle.limits.specs.Meter.{Meter, meter, work, released, dropping}
+use Rattle.limits.specs.declared.Meter.{Meter}
+use Rattle.limits.specs.Meter.{meter, work, released, dropping}
 use Rattle.limits.proofs.Monad.{then_stop, then_on}
 use Rattle.limits.proofs.CodeLaws.{work_paid, work_stopped}
 use Rattle.interval.specs.declared.Interval.{Interval}

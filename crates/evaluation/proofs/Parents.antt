@@ -11,7 +11,8 @@ use Rattle.limits.specs.declared.Charged.TheVariants.{Paid}
 use Rattle.limits.specs.declared.Charged.TheVariants as charged
 use Rattle.limits.specs.Charge.{charge_of}
 use Rattle.limits.specs.Metered.{Run, going, stopped, Metered, pure, after, ◌>>=◌, ◌>>◌, mapped}
-use Rattle.limits.specs.Meter.{Meter, meter, work, dropping}
+use Rattle.limits.specs.declared.Meter.{Meter}
+use Rattle.limits.specs.Meter.{meter, work, dropping}
 use Rattle.limits.proofs.Monad.{bind_stop, bind_on, then_stop, then_on, pure_is}
 use Rattle.limits.proofs.CodeLaws.{work_paid, work_stopped, drop_on, drop_stop}
 use Rattle.interval.specs.declared.Interval.{Interval}

@@ -5,7 +5,8 @@ use mathlib.Core.List.{List}
 use lib.Dec.{eqb}
 use Rattle.limits.specs.declared.Stop.{Stop}
 use Rattle.limits.specs.Metered.{Metered}
-use Rattle.limits.specs.Meter.{Meter, work}
+use Rattle.limits.specs.declared.Meter.{Meter}
+use Rattle.limits.specs.Meter.{work}
 use Rattle.limits.proofs.Monad.{Steady, steady_pure, steady_test, steady_unit, steady_bind, steady_then, steady_through}
 use Rattle.interval.specs.declared.Interval.{Interval}
 use Rattle.lattice.specs.Value.{Value}

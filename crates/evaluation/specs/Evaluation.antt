@@ -3,7 +3,8 @@ use Rattle.std.specs.Prelude.{ℕ, zero, suc, Bool, true, false, cond, ◌&&◌,
 use Rattle.std.proofs.Math.Option.{none}
 use Rattle.limits.specs.declared.Stop.{Stop}
 use Rattle.limits.specs.Metered.{Metered, pure, ◌>>=◌, ◌>>◌}
-use Rattle.limits.specs.Meter.{Meter, work, holding, dropping}
+use Rattle.limits.specs.declared.Meter.{Meter}
+use Rattle.limits.specs.Meter.{work, holding, dropping}
 use Rattle.interval.specs.declared.Interval.{Interval}
 use Rattle.interval.specs.declared.Interval.TheVariants.{Bottom, Bounded, Unbounded}
 use Rattle.interval.specs.Bound.{numeric_of}

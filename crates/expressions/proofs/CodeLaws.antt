@@ -22,7 +22,8 @@ use Rattle.limits.specs.Charge.{units_of}
 use Rattle.limits.specs.Refusal.{Told, told}
 use Rattle.limits.specs.Records.{with_count, with_statistics}
 use Rattle.limits.specs.Metered.{Run, going, stopped, Metered, pure, after, ◌>>=◌, ◌>>◌, mapped, through}
-use Rattle.limits.specs.Meter.{Meter, meter_of, metered, units}
+use Rattle.limits.specs.declared.Meter.{Meter}
+use Rattle.limits.specs.Meter.{meter_of, metered, units}
 use Rattle.limits.specs.Meter as inner
 use Rattle.limits.specs.Budget.{work, links}
 use Rattle.limits.proofs.Monad.{bind_on, then_on, then_stop, through_on, through_stop, pure_is}

@@ -5,7 +5,8 @@ use Rattle.limits.specs.declared.Budget.{Budget}
 use Rattle.limits.specs.declared.Refusal.TheVariants.{Closed, Shape, Full, Missing}
 use Rattle.limits.specs.Refusal.{Told}
 use Rattle.limits.specs.Metered.{going, Metered, pure, ◌>>=◌, ◌>>◌, zoom}
-use Rattle.limits.specs.Meter.{Meter, metered}
+use Rattle.limits.specs.declared.Meter.{Meter}
+use Rattle.limits.specs.Meter.{metered}
 use Rattle.limits.specs.Meter as inner
 use Rattle.limits.specs.Budget.{work, links}
 use Rattle.search.specs.Seek.{Place, found, absent}

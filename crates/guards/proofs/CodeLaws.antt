@@ -16,7 +16,8 @@ use Rattle.limits.specs.declared.Charged.TheVariants.{Paid}
 use Rattle.limits.specs.declared.Charged.TheVariants as charged
 use Rattle.limits.specs.Charge.{charge_of}
 use Rattle.limits.specs.Metered.{Run, going, stopped, Metered, pure, ◌>>=◌, ◌>>◌, fold_m, mapped}
-use Rattle.limits.specs.Meter.{Meter, meter, work}
+use Rattle.limits.specs.declared.Meter.{Meter}
+use Rattle.limits.specs.Meter.{meter, work}
 use Rattle.limits.proofs.Monad.{bind_stop, bind_on, then_stop, then_on, through_on, through_stop, through_is, pure_is, yes_on, no_on}
 use Rattle.limits.proofs.Onward.{Onward, onward_begins, onward_ends, bind_stops, bind_goes}
 use Rattle.limits.proofs.CodeLaws.{work_paid, work_stopped}

@@ -12,7 +12,7 @@ use Rattle.integers.specs.Order.{least32, greatest32}
 use Rattle.integers.specs.Lists.{All}
 use Rattle.limits.specs.declared.Stop.{Stop}
 use Rattle.limits.specs.Metered.{Metered, pure, ◌>>=◌, ◌>>◌, fold_m}
-use Rattle.limits.specs.Meter.{Meter}
+use Rattle.limits.specs.declared.Meter.{Meter}
 use Rattle.limits.proofs.Monad.{any_value}
 use Rattle.limits.proofs.Ends.{Ends, ends_pure, ends_test, ends_bind, ends_then, ends_through, on_bind, on_then}
 use Rattle.limits.proofs.Live.{Lives, live_work, live_ends}

@@ -11,7 +11,8 @@ use lib.ListN.{length}
 use Rattle.integers.specs.Lists.{from}
 use Rattle.limits.specs.declared.Stop.{Stop}
 use Rattle.limits.specs.Metered.{Metered, pure, ◌>>=◌, ◌>>◌, fold_m}
-use Rattle.limits.specs.Meter.{Meter, work}
+use Rattle.limits.specs.declared.Meter.{Meter}
+use Rattle.limits.specs.Meter.{work}
 use Rattle.limits.proofs.Monad.{Ensures, by_pure, by_test, then}
 use Rattle.limits.proofs.Ends.{Ends, completes, ends_pure, ends_test, ends_then, ends_bind, ends_through, ends_as, with_value, in_some_way}
 use Rattle.interval.specs.declared.Interval.{Interval}

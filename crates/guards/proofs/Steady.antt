@@ -5,7 +5,8 @@ use mathlib.Core.Bool.{Bool, true, false, cond, ◌&&◌}
 use mathlib.Core.List.{List}
 use Rattle.limits.specs.declared.Stop.{Stop}
 use Rattle.limits.specs.Metered.{Metered, pure, ◌>>=◌, ◌>>◌}
-use Rattle.limits.specs.Meter.{Meter, work}
+use Rattle.limits.specs.declared.Meter.{Meter}
+use Rattle.limits.specs.Meter.{work}
 use Rattle.limits.proofs.Monad.{Steady, steady_unit}
 use Rattle.limits.proofs.Alike.{SteadyOn, on_pure, on_test, on_look, on_bind, on_then, on_fold, on_through, steady_on}
 use Rattle.interval.specs.declared.Interval.{Interval}

@@ -2,7 +2,8 @@
 use Rattle.std.specs.Prelude.{ℕ, Bool, cond, ◌&&◌, not, List}
 use Rattle.limits.specs.declared.Stop.{Stop}
 use Rattle.limits.specs.Metered.{Metered, pure, ◌>>=◌, ◌>>◌, fold_m, on_stop, finally, zoom}
-use Rattle.limits.specs.Meter.{Meter, work, released}
+use Rattle.limits.specs.declared.Meter.{Meter}
+use Rattle.limits.specs.Meter.{work, released}
 use Rattle.interval.specs.declared.Interval.{Interval}
 use Rattle.interval.specs.Interval.{endpoints_of}
 use Rattle.lattice.specs.Value.{Value}

@@ -3,7 +3,7 @@ use Rattle.std.specs.Prelude.{ℕ, ◌+◌, ◌*◌, min, Bool, true, false, con
 use Rattle.std.proofs.lemmas.List.Edits.{sets}
 use Rattle.limits.specs.declared.Stop.{Stop}
 use Rattle.limits.specs.Metered.{Metered}
-use Rattle.limits.specs.Meter.{Meter}
+use Rattle.limits.specs.declared.Meter.{Meter}
 use Rattle.cells.specs.Cells.{of_cell}
 use Rattle.search.specs.declared.Ordering.{Ordering}
 use Rattle.search.specs.declared.Ordering.TheVariants.{Less, Equal, Greater}

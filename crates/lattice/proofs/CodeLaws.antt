@@ -10,7 +10,8 @@ use lib.ListN.{length, take, get_or}
 use lib.IntN.{ℤ}
 use Rattle.limits.specs.declared.Stop.{Stop}
 use Rattle.limits.specs.Metered.{Run, going, stopped, Metered}
-use Rattle.limits.specs.Meter.{Meter, meter, work, retain}
+use Rattle.limits.specs.declared.Meter.{Meter}
+use Rattle.limits.specs.Meter.{meter, work, retain}
 use Rattle.limits.proofs.Monad.{bind_stop, bind_on, then_stop, then_on, pure_is, yes_on, no_on}
 use Rattle.limits.proofs.CodeLaws.{hold_on, hold_stop}
 use Rattle.interval.specs.declared.Interval.{Interval}

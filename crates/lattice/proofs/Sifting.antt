@@ -8,7 +8,8 @@ use lib.ListN.{length, take, drop, set, get_or, length-take, length-set, drop_of
 use lib.Seq.{take-suc-set, drop-cons}
 use Rattle.limits.specs.declared.Stop.{Stop}
 use Rattle.limits.specs.Metered.{going, stopped, Metered, pure, ◌>>◌, fold_m}
-use Rattle.limits.specs.Meter.{Meter, meter, work, holding}
+use Rattle.limits.specs.declared.Meter.{Meter}
+use Rattle.limits.specs.Meter.{meter, work, holding}
 use Rattle.limits.proofs.Monad.{bind_stop, bind_on, then_stop, then_on, pure_is}
 use Rattle.limits.proofs.CodeLaws.{hold_on, hold_stop}
 use Rattle.interval.specs.declared.Bound.{Bound}

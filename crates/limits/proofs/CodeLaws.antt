@@ -19,7 +19,8 @@ use Rattle.limits.specs.Charge.{stop_of, charge_of, sum_of}
 use Rattle.limits.specs.Records.{limit_of, count_of, with_count, with_widened, with_statistics}
 use Rattle.limits.specs.Metered.{Run, going, stopped, Metered, answered, mapped, through}
 use Rattle.limits.specs.Budget.{charge, charged, released, widened_once, ran}
-use Rattle.limits.specs.Meter.{Meter, meter, with_meter, holding, dropping}
+use Rattle.limits.specs.declared.Meter.{Meter}
+use Rattle.limits.specs.Meter.{meter, with_meter, holding, dropping}
 use Rattle.limits.specs.Meter as inner
 
 module _ (r : Resource) (old amount limit : ℕ) where

@@ -7,3 +7,4 @@ pub mod Onward
 pub mod Alike
 pub mod Charging
 pub mod Units
+pub mod Answering

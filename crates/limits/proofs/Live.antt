@@ -12,7 +12,8 @@ use Rattle.limits.specs.declared.Charged.{Charged}
 use Rattle.limits.specs.declared.Charged.TheVariants.{Paid, Stopped}
 use Rattle.limits.specs.Charge.{stop_of, charge_of}
 use Rattle.limits.specs.Metered.{Run, going, stopped, Metered, pure, after, ◌>>=◌, ◌>>◌, fold_m, mapped, through}
-use Rattle.limits.specs.Meter.{Meter, work, retain, release, released, holding, dropping, charged, with_work, with_entries}
+use Rattle.limits.specs.declared.Meter.{Meter}
+use Rattle.limits.specs.Meter.{work, retain, release, released, holding, dropping, charged, with_work, with_entries}
 use Rattle.limits.proofs.Monad.{Holds, Ensures}
 use Rattle.limits.proofs.Ends.{Ends, completes, stops}
 

@@ -12,7 +12,8 @@ use Rattle.limits.specs.declared.Charged.{Charged}
 use Rattle.limits.specs.declared.Charged.TheVariants.{Paid, Stopped}
 use Rattle.limits.specs.Charge.{stop_of, charge_of, on_paid, units_of}
 use Rattle.limits.specs.Metered.{Run, going, stopped, Metered, pure, after, ◌>>=◌, ◌>>◌}
-use Rattle.limits.specs.Meter.{Meter, meter, with_work, work, units}
+use Rattle.limits.specs.declared.Meter.{Meter}
+use Rattle.limits.specs.Meter.{meter, with_work, work, units}
 use Rattle.limits.proofs.Monad.{pure_is, then_on, then_stop}
 use Rattle.limits.proofs.CodeLaws.{charge_within, work_paid, work_stopped}
 

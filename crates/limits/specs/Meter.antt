@@ -5,7 +5,7 @@ use Rattle.limits.specs.declared.Stop.{Stop}
 use Rattle.limits.specs.declared.Charged.{Charged}
 use Rattle.limits.specs.declared.Charged.TheVariants.{Paid, Stopped}
 use Rattle.limits.specs.declared.Budget.{Budget}
-pub use Rattle.limits.specs.declared.Meter.{Meter}
+use Rattle.limits.specs.declared.Meter.{Meter}
 use Rattle.limits.specs.Charge.{charge_of}
 use Rattle.limits.specs.Records.{with_count, with_statistics}
 use Rattle.limits.specs.Metered.{Run, going, stopped, Metered, answered, mapped, pure, ◌>>◌, on_stop, finally, zoom}

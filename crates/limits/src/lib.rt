@@ -11,7 +11,7 @@ ghost use Rattle.limits.specs.Meter.{meter, meter_of, with_meter, units, retain,
 ghost use Rattle.limits.specs.Metered.{answered};
 
 // Inclusive ceilings. Beside each stands its name in limits.rs.
-#[derive(Clone, Copy)]
+#[derive(Clone, Copy, Debug, PartialEq, Eq)]
 pub struct Limits {
     pub work: u64, // max_work
     pub predicates: u64, // max_predicates
@@ -25,7 +25,7 @@ pub struct Limits {
 }
 
 // What has been charged. `entries` are live and go down again, `widened` has no limit, the others only grow.
-#[derive(Clone, Copy)]
+#[derive(Clone, Copy, Debug, PartialEq, Eq)]
 pub struct Statistics {
     pub work: u64,
     pub predicates: u64,
@@ -38,7 +38,7 @@ pub struct Statistics {
 }
 
 // The seven counts that have a limit.
-#[derive(Clone, Copy)]
+#[derive(Clone, Copy, Debug, PartialEq, Eq)]
 pub enum Resource {
     Work,
     Predicates,
@@ -50,7 +50,7 @@ pub enum Resource {
 }
 
 // A charge that would pass its limit. The observed sum may need 65 bits: it is high * 2^64 + low.
-#[derive(Clone, Copy)]
+#[derive(Clone, Copy, Debug, PartialEq, Eq)]
 pub struct Stop {
     pub resource: Resource,
     pub limit: u64,
@@ -59,7 +59,7 @@ pub struct Stop {
 }
 
 // Why a call is turned down. Causes are kept apart where 01 gives several one number.
-#[derive(Clone, Copy)]
+#[derive(Clone, Copy, Debug, PartialEq, Eq)]
 pub enum Refusal {
     // The phase of the store does not admit the call.
     Closed,
@@ -85,7 +85,7 @@ pub enum Charged {
 }
 
 // The limits and the counts of one store.
-#[derive(Clone, Copy)]
+#[derive(Clone, Copy, Debug, PartialEq, Eq)]
 pub struct Budget {
     pub limits: Limits,
     pub statistics: Statistics,

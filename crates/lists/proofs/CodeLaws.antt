@@ -16,7 +16,8 @@ use Rattle.limits.specs.declared.Charged.TheVariants.{Paid, Stopped}
 use Rattle.limits.specs.declared.Resource.TheVariants.{Work, ValueEntries}
 use Rattle.limits.specs.Charge.{charge_of}
 use Rattle.limits.specs.Metered.{Run, going, stopped, pure, after, ◌>>=◌, ◌>>◌, mapped, through}
-use Rattle.limits.specs.Meter.{Meter, meter, release}
+use Rattle.limits.specs.declared.Meter.{Meter}
+use Rattle.limits.specs.Meter.{meter, release}
 use Rattle.limits.proofs.CodeLaws.{work_paid, work_stopped, retain_paid, retain_stopped}
 use Rattle.search.specs.Seek.{Place, found, absent, seek, compareℕ}
 use Rattle.lists.specs.declared.Verdict.TheVariants.{Yes, No}

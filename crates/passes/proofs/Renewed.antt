@@ -13,7 +13,8 @@ use lib.ListN.{length-replicate}
 use Rattle.limits.specs.declared.Stop.{Stop}
 use Rattle.limits.specs.declared.Budget.{Budget}
 use Rattle.limits.specs.Metered.{Run, going, stopped, Metered}
-use Rattle.limits.specs.Meter.{Meter, meter_of, with_meter}
+use Rattle.limits.specs.declared.Meter.{Meter}
+use Rattle.limits.specs.Meter.{meter_of, with_meter}
 use Rattle.limits.specs.Budget.{released}
 use Rattle.limits.proofs.Monad.{Holds, Ensures}
 use Rattle.limits.proofs.Ends.{Ends, completes, stops, ends_pure, ends_bind, ends_through}

@@ -10,7 +10,8 @@ use Rattle.limits.specs.declared.Stop.{Stop}
 use Rattle.limits.specs.declared.Budget.{Budget}
 use Rattle.limits.specs.Metered.{Run, going, stopped, Metered, pure, after, ◌>>=◌}
 use Rattle.limits.specs.Budget.{released}
-use Rattle.limits.specs.Meter.{Meter, meter_of, with_meter}
+use Rattle.limits.specs.declared.Meter.{Meter}
+use Rattle.limits.specs.Meter.{meter_of, with_meter}
 use Rattle.limits.proofs.Ends.{Ends, completes, stops, ends_pure, ends_as, on_bind, where_going}
 use Rattle.rows.specs.Row.{value_at}
 use Rattle.slots.specs.Slots.{total}

@@ -10,7 +10,8 @@ use Rattle.limits.specs.declared.Stop.{Stop}
 use Rattle.limits.specs.declared.Budget.{Budget}
 use Rattle.limits.specs.declared.Limits.{Limits}
 use Rattle.limits.specs.Metered.{Run, going, stopped, ◌>>=◌}
-use Rattle.limits.specs.Meter.{Meter, meter_of}
+use Rattle.limits.specs.declared.Meter.{Meter}
+use Rattle.limits.specs.Meter.{meter_of}
 use Rattle.limits.proofs.Monad.{Agree}
 use Rattle.limits.proofs.Alike.{Alike, SteadyOn, on_pure, on_test, on_look, on_bind, on_through}
 use Rattle.limits.proofs.Ends.{Ends, where_going}

@@ -2,7 +2,8 @@
 use Rattle.std.specs.Prelude.{ℕ, ◌≡◌, Bool, true, false, List}
 use Rattle.limits.specs.declared.Stop.{Stop}
 use Rattle.limits.specs.Metered.{Run, going, stopped, Metered}
-use Rattle.limits.specs.Meter.{Meter, meter}
+use Rattle.limits.specs.declared.Meter.{Meter}
+use Rattle.limits.specs.Meter.{meter}
 use Rattle.lattice.specs.Value.{value_of}
 use Rattle.lattice.specs.Answers.{ran_as}
 use Rattle.rounds.specs.declared.Ran.{Ran}

@@ -18,7 +18,8 @@ use Rattle.limits.specs.declared.Refusal.TheVariants.{Closed, Shape, Full, Limit
 use Rattle.limits.specs.Refusal.{Told, told}
 use Rattle.limits.specs.Charge.{charge_of}
 use Rattle.limits.specs.Metered.{Run, going, stopped, Metered, pure, after, ◌>>=◌, ◌>>◌, through, mapped}
-use Rattle.limits.specs.Meter.{Meter, meter, meter_of, with_meter}
+use Rattle.limits.specs.declared.Meter.{Meter}
+use Rattle.limits.specs.Meter.{meter, meter_of, with_meter}
 use Rattle.limits.specs.Meter as inner
 use Rattle.limits.proofs.Monad.{then_on, then_stop, pure_is, through_on, through_stop, came}
 use Rattle.limits.proofs.CodeLaws.{work_paid, work_stopped}

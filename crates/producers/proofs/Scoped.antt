@@ -16,7 +16,8 @@ use Rattle.limits.specs.declared.Refusal.TheVariants.{Limit, Missing, MissingSlo
 use Rattle.limits.specs.Refusal.{Told, told}
 use Rattle.limits.specs.Charge.{charge_of}
 use Rattle.limits.specs.Metered.{Metered, pure, ◌>>◌}
-use Rattle.limits.specs.Meter.{Meter, work, with_work}
+use Rattle.limits.specs.declared.Meter.{Meter}
+use Rattle.limits.specs.Meter.{work, with_work}
 use Rattle.limits.specs.Meter as inner
 use Rattle.limits.proofs.ChargeLaws.{limit_late}
 use Rattle.limits.proofs.Ends.{Ends, completes, stops, ends_as, ends_pure, ends_test, ends_then, ends_through}

@@ -5,7 +5,8 @@ use Rattle.limits.specs.declared.Resource.TheVariants.{Work}
 use Rattle.limits.specs.Records.{with_count, with_statistics}
 use Rattle.store.specs.Store.{with_budget}
 use Rattle.limits.specs.Metered.{Run, going, stopped, Metered}
-use Rattle.limits.specs.Meter.{Meter, meter}
+use Rattle.limits.specs.declared.Meter.{Meter}
+use Rattle.limits.specs.Meter.{meter}
 use Rattle.store.specs.declared.Store.{Store}
 use Rattle.store.specs.declared.Done.{Done}
 use Rattle.store.specs.declared.Answer.{Answer}

@@ -5,7 +5,8 @@ use Rattle.limits.specs.declared.Budget.{Budget}
 use Rattle.limits.specs.declared.Refusal.TheVariants.{Closed, Shape, Full, Limit, Missing, MissingSlot}
 use Rattle.limits.specs.Refusal.{Told, told}
 use Rattle.limits.specs.Metered.{going, Metered, pure, ◌>>◌, zoom, stopping}
-use Rattle.limits.specs.Meter.{Meter, meter_of, with_meter}
+use Rattle.limits.specs.declared.Meter.{Meter}
+use Rattle.limits.specs.Meter.{meter_of, with_meter}
 use Rattle.limits.specs.Meter as inner
 use Rattle.limits.specs.Budget.{work, links}
 use Rattle.nodes.specs.declared.Expression.{Expression}

@@ -20,7 +20,8 @@ use Rattle.limits.specs.declared.Charged.TheVariants.{Paid}
 use Rattle.limits.specs.declared.Charged.TheVariants as charged
 use Rattle.limits.specs.Charge.{charge_of}
 use Rattle.limits.specs.Metered.{Run, going, stopped, Metered, pure, after, ◌>>=◌, ◌>>◌, fold_m, mapped, through}
-use Rattle.limits.specs.Meter.{Meter, meter, work, released, holding, dropping}
+use Rattle.limits.specs.declared.Meter.{Meter}
+use Rattle.limits.specs.Meter.{meter, work, released, holding, dropping}
 use Rattle.limits.proofs.Monad.{bind_stop, bind_on, then_stop, then_on, through_on, through_stop, pure_is, yes_on, no_on, Ensures, by_pure, by_test, by_through, then}
 use Rattle.limits.proofs.Onward.{Onward, onward_begins, onward_is, onward_ends, onward_yes, onward_no, then_stops, then_goes}
 use Rattle.limits.proofs.CodeLaws.{work_paid, work_stopped, drop_on, drop_stop}

@@ -2,7 +2,8 @@
 use Rattle.std.specs.Prelude.{ℕ, ◌≡◌, List}
 use Rattle.limits.specs.declared.Stop.{Stop}
 use Rattle.limits.specs.Metered.{Run, going, stopped, Metered}
-use Rattle.limits.specs.Meter.{Meter, meter}
+use Rattle.limits.specs.declared.Meter.{Meter}
+use Rattle.limits.specs.Meter.{meter}
 use Rattle.interval.specs.declared.Interval.{Interval}
 use Rattle.lattice.specs.Value.{Value}
 use Rattle.lattice.specs.Lattice.{numeric}

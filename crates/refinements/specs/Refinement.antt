@@ -5,7 +5,8 @@ use Rattle.std.proofs.lemmas.List.Edits.{sets}
 use Rattle.integers.specs.Lists.{from}
 use Rattle.limits.specs.declared.Stop.{Stop}
 use Rattle.limits.specs.Metered.{going, Metered, pure, ◌>>=◌, ◌>>◌, zoom}
-use Rattle.limits.specs.Meter.{Meter, work, holding, dropping}
+use Rattle.limits.specs.declared.Meter.{Meter}
+use Rattle.limits.specs.Meter.{work, holding, dropping}
 use Rattle.interval.specs.declared.Interval.{Interval}
 use Rattle.interval.specs.Interval.{meet_of}
 use Rattle.interval.specs.Bound.{mixed}

@@ -11,7 +11,8 @@ use Rattle.integers.proofs.Stores.{all_get_d}
 use Rattle.limits.specs.declared.Stop.{Stop}
 use Rattle.limits.specs.declared.Resource.TheVariants.{Rounds}
 use Rattle.limits.specs.Metered.{Run}
-use Rattle.limits.specs.Meter.{Meter, meter_of, with_meter, work}
+use Rattle.limits.specs.declared.Meter.{Meter}
+use Rattle.limits.specs.Meter.{meter_of, with_meter, work}
 use Rattle.limits.specs.Budget.{released, round}
 use Rattle.limits.proofs.Monad.{any_value, weaken}
 use Rattle.limits.proofs.Ends.{Ends, completes, stops, ends_through, ends_as, on_then}

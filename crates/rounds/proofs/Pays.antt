@@ -7,7 +7,8 @@ use Rattle.limits.specs.declared.Stop.{Stop}
 use Rattle.limits.specs.declared.Budget.{Budget}
 use Rattle.limits.specs.Metered.{Run, Metered, ◌>>◌}
 use Rattle.limits.specs.Budget.{round, released}
-use Rattle.limits.specs.Meter.{Meter, meter_of, with_meter}
+use Rattle.limits.specs.declared.Meter.{Meter}
+use Rattle.limits.specs.Meter.{meter_of, with_meter}
 use Rattle.limits.proofs.ChargeLaws.{Charges, accepted, refused, charge_does}
 use Rattle.limits.proofs.Ends.{Ends, completes, stops, ends_pure, ends_as, ends_then, ends_through, on_then, in_some_way}
 use Rattle.store.specs.declared.Context.{Context}

@@ -2,7 +2,8 @@
 use Rattle.std.specs.Prelude.{ℕ, ◌*◌, List, replicate}
 use Rattle.limits.specs.declared.Stop.{Stop}
 use Rattle.limits.specs.Metered.{Run, going, stopped, Metered, ◌>>=◌, ◌>>◌, finally, zoom}
-use Rattle.limits.specs.Meter.{Meter, work}
+use Rattle.limits.specs.declared.Meter.{Meter}
+use Rattle.limits.specs.Meter.{work}
 use Rattle.rows.specs.Row.{row}
 use Rattle.rules.specs.Read.{slots_at}
 use Rattle.slots.specs.Slots.{Slots, total, fewer, paying}

@@ -2,7 +2,8 @@
 use Rattle.std.specs.Prelude.{ℕ}
 use Rattle.limits.specs.declared.Stop.{Stop}
 use Rattle.limits.specs.Metered.{Run, going, stopped}
-use Rattle.limits.specs.Meter.{Meter, meter}
+use Rattle.limits.specs.declared.Meter.{Meter}
+use Rattle.limits.specs.Meter.{meter}
 use Rattle.lattice.specs.Value.{Value}
 use Rattle.rows.specs.declared.Copied.{Copied}
 use Rattle.rows.specs.declared.Copied.TheVariants.{To, Stopped}

@@ -19,7 +19,8 @@ use Rattle.limits.specs.declared.Budget.{Budget}
 use Rattle.limits.specs.Refusal.{Told}
 use Rattle.limits.specs.Metered.{Run, going, stopped, Metered, pure, ◌>>◌, mapped, through}
 use Rattle.limits.specs.Budget.{work, links, released, widened_once}
-use Rattle.limits.specs.Meter.{Meter, meter_of, with_meter, metered, holding}
+use Rattle.limits.specs.declared.Meter.{Meter}
+use Rattle.limits.specs.Meter.{meter_of, with_meter, metered, holding}
 use Rattle.limits.specs.Meter as meters
 use Rattle.limits.proofs.Monad.{Ensures, Holds, both, by_through}
 use Rattle.limits.proofs.Live.{Lives, LiveIn, live_as, live_holding}

@@ -14,7 +14,8 @@ use Rattle.limits.specs.declared.Charged.TheVariants.{Paid}
 use Rattle.limits.specs.declared.Charged.TheVariants as charged
 use Rattle.limits.specs.Charge.{charge_of}
 use Rattle.limits.specs.Metered.{Run, going, stopped, Metered, pure, ◌>>=◌, ◌>>◌}
-use Rattle.limits.specs.Meter.{Meter, meter, work}
+use Rattle.limits.specs.declared.Meter.{Meter}
+use Rattle.limits.specs.Meter.{meter, work}
 use Rattle.limits.proofs.Onward.{Onward, onward_begins, onward_ends, bind_stops, bind_goes, then_stops, then_goes}
 use Rattle.limits.proofs.Monad.{then_stop, then_on, through_on, through_stop, pure_is}
 use Rattle.limits.proofs.CodeLaws.{work_paid, work_stopped}

@@ -12,7 +12,8 @@ use lib.ListN.{length}
 use Rattle.integers.specs.Lists.{All}
 use Rattle.limits.specs.declared.Stop.{Stop}
 use Rattle.limits.specs.Metered.{Run, going, stopped, Metered, pure, ◌>>◌}
-use Rattle.limits.specs.Meter.{Meter, work, released}
+use Rattle.limits.specs.declared.Meter.{Meter}
+use Rattle.limits.specs.Meter.{work, released}
 use Rattle.limits.proofs.Monad.{Holds, Ensures, any_value}
 use Rattle.limits.proofs.Ends.{Ends, completes, stops, ends_pure, ends_then, ends_bind, ends_through, ends_as}
 use Rattle.limits.proofs.Live.{LiveIn, Lives, live_work, live_as, live_ends}

@@ -5,7 +5,8 @@ use mathlib.Core.Path.{refl, ap}
 use mathlib.Core.List.{List, [], ◌∷◌}
 use Rattle.limits.specs.declared.Stop.{Stop}
 use Rattle.limits.specs.Metered.{Run, going, stopped, Metered}
-use Rattle.limits.specs.Meter.{Meter, work}
+use Rattle.limits.specs.declared.Meter.{Meter}
+use Rattle.limits.specs.Meter.{work}
 use Rattle.limits.proofs.Monad.{Agree, Steady, steady_unit}
 use Rattle.limits.proofs.Alike.{Alike, SteadyOn, on_pure, on_bind, on_then, on_through, steady_on}
 use Rattle.interval.specs.declared.Interval.{Interval}

@@ -3,7 +3,8 @@ use Rattle.std.specs.Prelude.{ℕ, zero, suc, ◌+◌, List, [], ◌∷◌}
 use Rattle.std.proofs.Math.Option.{Option, some, none}
 use Rattle.limits.specs.declared.Stop.{Stop}
 use Rattle.limits.specs.Metered.{Run, going, stopped, Metered, pure, ◌>>=◌, ◌>>◌, on_stop, finally, zoom}
-use Rattle.limits.specs.Meter.{Meter, work, released}
+use Rattle.limits.specs.declared.Meter.{Meter}
+use Rattle.limits.specs.Meter.{work, released}
 use Rattle.interval.specs.declared.Interval.{Interval}
 use Rattle.lattice.specs.declared.Widening.TheVariants.{Dependency}
 use Rattle.lattice.specs.declared.Reason.TheVariants.{None, Some}

@@ -11,7 +11,8 @@ use Rattle.integers.specs.Order.{Number, Between, least32, greatest32}
 use Rattle.integers.specs.Lists.{All}
 use Rattle.limits.specs.declared.Stop.{Stop}
 use Rattle.limits.specs.Metered.{Run, going, stopped, Metered, pure, ◌>>◌}
-use Rattle.limits.specs.Meter.{Meter, work}
+use Rattle.limits.specs.declared.Meter.{Meter}
+use Rattle.limits.specs.Meter.{work}
 use Rattle.limits.proofs.Monad.{Holds, Ensures, by_pure, bind, weaken, both, by_through}
 use Rattle.limits.proofs.Ends.{Ends, completes, stops, ends_pure, ends_then, ends_bind, ends_through, with_value, in_some_way}
 use Rattle.interval.specs.declared.Interval.{Interval}

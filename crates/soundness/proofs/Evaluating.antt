@@ -14,7 +14,8 @@ use Rattle.integers.specs.Lists.{All}
 use Rattle.integers.proofs.Tests.{by_cond, and_left, and_right}
 use Rattle.limits.specs.declared.Stop.{Stop}
 use Rattle.limits.specs.Metered.{Metered, ◌>>=◌}
-use Rattle.limits.specs.Meter.{Meter, work, holding, dropping}
+use Rattle.limits.specs.declared.Meter.{Meter}
+use Rattle.limits.specs.Meter.{work, holding, dropping}
 use Rattle.limits.proofs.Monad.{Ensures, by_pure, by_test, bind, then, weaken, both, for_all, by_through}
 use Rattle.range.specs.declared.Ranged.{Ranged}
 use Rattle.range.specs.declared.Ranged.TheVariants.{Within, Declined}

@@ -19,7 +19,8 @@ use Rattle.limits.specs.declared.Resource.TheVariants.{Work, Links, Rounds}
 use Rattle.limits.specs.declared.Stop.{Stop}
 use Rattle.limits.specs.Refusal.{Told, told, resource_number}
 use Rattle.limits.specs.Metered.{Run, going, stopped, Metered}
-use Rattle.limits.specs.Meter.{Meter, meter_of}
+use Rattle.limits.specs.declared.Meter.{Meter}
+use Rattle.limits.specs.Meter.{meter_of}
 use Rattle.limits.proofs.Ends.{Ends, completes, stops, ends_both}
 use Rattle.interval.specs.declared.Interval.{Interval}
 use Rattle.interval.specs.declared.Endpoints.{Endpoints}

@@ -16,7 +16,8 @@ use Rattle.limits.specs.declared.Charged.TheVariants.{Paid, Stopped}
 use Rattle.limits.specs.Charge.{stop_of, charge_of}
 use Rattle.limits.specs.Records.{count_of, limit_of}
 use Rattle.limits.specs.Metered.{Run, Metered, pure, ◌>>=◌, ◌>>◌, fold_m, through}
-use Rattle.limits.specs.Meter.{Meter, work, retain, release, charged, with_work, with_entries}
+use Rattle.limits.specs.declared.Meter.{Meter}
+use Rattle.limits.specs.Meter.{work, retain, release, charged, with_work, with_entries}
 use Rattle.limits.specs.Budget as budgets
 use Rattle.limits.proofs.Ends.{Ends, completes, stops, ends_as, ends_test, ends_after, ends_through}
 use Rattle.interval.specs.declared.Interval.{Interval}

@@ -11,7 +11,8 @@ use lib.ListN.{length-replicate}
 use Rattle.integers.specs.Lists.{All}
 use Rattle.limits.specs.declared.Stop.{Stop}
 use Rattle.limits.specs.Metered.{Run}
-use Rattle.limits.specs.Meter.{Meter, work}
+use Rattle.limits.specs.declared.Meter.{Meter}
+use Rattle.limits.specs.Meter.{work}
 use Rattle.limits.proofs.Monad.{Ensures, weaken, both, for_all}
 use Rattle.limits.proofs.Ends.{Ends, completes, stops, ends_as, ends_both, in_some_way, on_then}
 use Rattle.lattice.specs.Value.{Value}

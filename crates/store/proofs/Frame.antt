@@ -14,7 +14,8 @@ use Rattle.limits.specs.Records.{count_of, limit_of}
 use Rattle.limits.specs.Metered.{Run, going, stopped, Metered, ◌>>◌, through, mapped}
 use Rattle.limits.specs.Budget.{charge, work, links, bytes}
 use Rattle.limits.specs.Budget as budgets
-use Rattle.limits.specs.Meter.{Meter, meter_of, with_meter, metered}
+use Rattle.limits.specs.declared.Meter.{Meter}
+use Rattle.limits.specs.Meter.{meter_of, with_meter, metered}
 use Rattle.limits.proofs.Ends.{Ends, completes, stops, ends_as, ends_then, ends_through, ends_both, in_some_way}
 use Rattle.limits.proofs.ChargeLaws.{late}
 use Rattle.limits.proofs.Live.{LiveIn, Lives}

@@ -15,7 +15,8 @@ use Rattle.limits.specs.Charge.{charge_of}
 use Rattle.limits.specs.Records.{count_of, limit_of}
 use Rattle.limits.specs.Metered.{Run, going, stopped, pure, after, ◌>>=◌, ◌>>◌, through, mapped}
 use Rattle.limits.specs.Budget.{charge, charged, links}
-use Rattle.limits.specs.Meter.{Meter, meter_of, with_meter}
+use Rattle.limits.specs.declared.Meter.{Meter}
+use Rattle.limits.specs.Meter.{meter_of, with_meter}
 use Rattle.limits.proofs.Monad.{Holds, for_all}
 use Rattle.limits.proofs.Live.{LiveIn}
 use Rattle.search.specs.declared.Ordering.{Ordering}

@@ -6,7 +6,8 @@ use Rattle.integers.specs.Lists.{inserted}
 use Rattle.limits.specs.declared.Budget.{Budget}
 use Rattle.limits.specs.declared.Stop.{Stop}
 use Rattle.limits.specs.Budget.{work, links}
-use Rattle.limits.specs.Meter.{Meter, metered}
+use Rattle.limits.specs.declared.Meter.{Meter}
+use Rattle.limits.specs.Meter.{metered}
 use Rattle.limits.specs.Metered.{going, Metered, pure, ◌>>=◌, ◌>>◌, zoom}
 use Rattle.search.specs.declared.Ordering.{Ordering}
 use Rattle.search.specs.Seek.{Place, found, absent, seek, compareℤ}

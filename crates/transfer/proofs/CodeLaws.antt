@@ -4,7 +4,8 @@ use mathlib.Core.Path.{◌≡◌, sym, ap, ◌∙◌}
 use mathlib.Core.List.{List}
 use Rattle.limits.specs.declared.Stop.{Stop}
 use Rattle.limits.specs.Metered.{Run, Metered}
-use Rattle.limits.specs.Meter.{Meter, meter}
+use Rattle.limits.specs.declared.Meter.{Meter}
+use Rattle.limits.specs.Meter.{meter}
 use Rattle.limits.proofs.Monad.{then_stop, then_on, through_on, through_stop}
 use Rattle.lattice.specs.Value.{Value}
 use Rattle.rules.specs.Read.{slots_at, bindings_at, guards_at}

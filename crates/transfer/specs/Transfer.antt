@@ -2,7 +2,8 @@
 use Rattle.std.specs.Prelude.{ℕ, List}
 use Rattle.limits.specs.declared.Stop.{Stop}
 use Rattle.limits.specs.Metered.{Metered, ◌>>◌, on_stop, zoom}
-use Rattle.limits.specs.Meter.{Meter, released}
+use Rattle.limits.specs.declared.Meter.{Meter}
+use Rattle.limits.specs.Meter.{released}
 use Rattle.lattice.specs.Value.{Value}
 use Rattle.rules.specs.Read.{slots_at, bindings_at, guards_at}
 use Rattle.slots.specs.Slots.{Slots, slots, total}

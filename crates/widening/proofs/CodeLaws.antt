@@ -20,7 +20,8 @@ use Rattle.limits.specs.declared.Charged.TheVariants.{Paid}
 use Rattle.limits.specs.declared.Charged.TheVariants as charged
 use Rattle.limits.specs.Charge.{charge_of}
 use Rattle.limits.specs.Metered.{Metered, pure, ◌>>◌}
-use Rattle.limits.specs.Meter.{Meter, meter, work}
+use Rattle.limits.specs.declared.Meter.{Meter}
+use Rattle.limits.specs.Meter.{meter, work}
 use Rattle.limits.proofs.Onward.{Onward, onward_begins, onward_ends, onward_yes, onward_no, then_stops, then_goes}
 use Rattle.limits.proofs.Monad.{bind_stop, bind_on, pure_is}
 use Rattle.limits.proofs.CodeLaws.{work_paid, work_stopped}

@@ -18,7 +18,8 @@ use Rattle.limits.specs.declared.Charged.TheVariants.{Paid}
 use Rattle.limits.specs.declared.Charged.TheVariants as charged
 use Rattle.limits.specs.Charge.{units_of}
 use Rattle.limits.specs.Metered.{pure, ◌>>◌}
-use Rattle.limits.specs.Meter.{Meter, work, units}
+use Rattle.limits.specs.declared.Meter.{Meter}
+use Rattle.limits.specs.Meter.{work, units}
 use Rattle.limits.proofs.Monad.{then_on, then_stop, pure_is}
 use Rattle.limits.proofs.Units.{units_paid, units_stopped, units_more, units_nothing}
 use Rattle.widening.specs.declared.Moved.{Moved}

@@ -17,7 +17,8 @@ use Rattle.integers.specs.Lists.{All}
 use Rattle.integers.proofs.OrderLaws.{le_yes, le_no, le_antisym}
 use Rattle.limits.specs.declared.Stop.{Stop}
 use Rattle.limits.specs.Metered.{Metered, going, pure}
-use Rattle.limits.specs.Meter.{Meter, work}
+use Rattle.limits.specs.declared.Meter.{Meter}
+use Rattle.limits.specs.Meter.{work}
 use Rattle.limits.proofs.Monad.{Ensures, Steady, by_pure, by_test, weaken, bind, then, steady_pure, steady_test, steady_unit, steady_bind, steady_then}
 use Rattle.limits.proofs.Live.{Lives, live_pure, live_test, live_bind, live_then, live_work}
 use Rattle.interval.specs.declared.Interval.{Interval}

@@ -1,0 +1,33 @@
+-- What follows from a clause `answered r s ≡ y`, at each way out of the code.
+use mathlib.Core.Path.{◌≡◌, sym, ap, ◌∙◌}
+use Rattle.std.proofs.Common.{Result, Ok, Err}
+use Rattle.std.specs.Prelude.{IsErrAnd}
+use Rattle.std.proofs.lemmas.Result.{err_from_is_err_and}
+use Rattle.limits.specs.Metered.{Run, going, stopped, answered}
+use Rattle.limits.specs.Refusal.{Told, told, replied}
+use Rattle.limits.specs.declared.Refusal.{Refusal}
+
+module _ {E S A : Type 0} {r : Result A E} {s : S} {y : Run E S A} (h : answered r s ≡ y) where
+  pub went : {a : A} → r ≡ Ok a → going a s ≡ y
+  went e = ap (λ (x : Result A E). answered x s) (sym e) ∙ h
+
+  pub broke : {e : E} → r ≡ Err e → stopped e s ≡ y
+  broke e = ap (λ (x : Result A E). answered x s) (sym e) ∙ h
+
+-- the exit of a `?`, from what that exit returns
+module _ {E S A : Type 0} {s : S} {y : Run E S A} where
+  pub exits : (x : Result A E) {e : E} → IsErrAnd x (λ d. d ≡ e) → stopped e s ≡ y → answered x s ≡ y
+  exits x h k = let p = err_from_is_err_and x h in rw (p.1, p.2) k
+
+-- ---- the same for calls, whose refusals are told by number and values
+
+module _ {S A : Type 0} {r : Result A Refusal} {s : S} {y : Run Told S A} (h : replied r s ≡ y) where
+  pub replied_ok : {a : A} → r ≡ Ok a → going a s ≡ y
+  replied_ok e = ap (λ (x : Result A Refusal). replied x s) (sym e) ∙ h
+
+  pub replied_err : {e : Refusal} → r ≡ Err e → stopped (told e) s ≡ y
+  replied_err e = ap (λ (x : Result A Refusal). replied x s) (sym e) ∙ h
+
+module _ {S A : Type 0} {s : S} {y : Run Told S A} where
+  pub refuses : (x : Result A Refusal) (e : Refusal) → IsErrAnd x (λ d. d ≡ e) → stopped (told e) s ≡ y → replied x s ≡ y
+  refuses x e h k = let p = err_from_is_err_and x h in rw (p.1, p.2) k
