@@ -22,8 +22,8 @@ use Rattle.limits.specs.declared.Meter.{Meter}
 use Rattle.limits.specs.Meter.{with_work, charged, work}
 use Rattle.limits.proofs.Monad.{Holds, Ensures, weaken}
 use Rattle.limits.proofs.Ends.{Ends, completes, stops, ends_pure, ends_then}
-use Rattle.search.specs.declared.Ordering.{Ordering}
-use Rattle.search.specs.declared.Ordering.TheVariants.{Less, Equal, Greater}
+use Rattle.std.specs.declared.cmp.Ordering.{Ordering}
+use Rattle.std.specs.declared.cmp.Ordering.TheVariants.{Less, Equal, Greater}
 use Rattle.search.specs.Seek.{Place, found, absent, by, middle, seek}
 use Rattle.search.proofs.Total.{alike}
 use Rattle.search.proofs.Complete as search

@@ -24,7 +24,7 @@ use Rattle.thresholds.specs.Thresholds.{Entry, entry, enter}
 use Rattle.thresholds.specs.Answers.{entered as as_entry}
 use Rattle.thresholds.proofs.Outcomes.{enter_grown}
 use Rattle.thresholds.proofs.CodeLaws.{went, halted}
-use Rattle.store.specs.declared.Context.{Context}
+use Rattle.store.specs.Store.{Context}
 use Rattle.slots.specs.Slots.{Slots, slots, total, copies}
 use Rattle.evaluation.specs.Evaluation.{input}
 use Rattle.widening.specs.Widening.{no_growth}

@@ -23,7 +23,7 @@ use Rattle.thresholds.specs.declared.Entered.TheVariants as entered
 use Rattle.thresholds.specs.Thresholds.{entry}
 use Rattle.rows.specs.Row.{row, padded}
 use Rattle.rows.proofs.RowLaws.{length_padded, get_or_padded}
-use Rattle.store.specs.declared.Context.{Context}
+use Rattle.store.specs.Store.{Context}
 use Rattle.store.specs.declared.Phase.TheVariants.{Completed, Stopped}
 use Rattle.store.specs.declared.Counts.{Counts}
 use Rattle.store.specs.declared.Store.{Store}

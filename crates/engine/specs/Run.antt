@@ -7,7 +7,7 @@ use Rattle.limits.specs.Metered.{going, Metered, ◌>>◌, on_stop, zoom}
 use Rattle.limits.specs.Budget.{work, released}
 use Rattle.limits.specs.Meter.{meter_of, with_meter}
 use Rattle.thresholds.specs.Thresholds.{Entry, entry, enter}
-use Rattle.store.specs.declared.Context.{Context}
+use Rattle.store.specs.Store.{Context}
 use Rattle.slots.specs.Slots.{slots, total, copies}
 use Rattle.widening.specs.Widening.{no_growth}
 use Rattle.rounds.specs.Round.{Given}

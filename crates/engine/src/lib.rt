@@ -15,7 +15,7 @@ ghost use Rattle.engine.specs.Answers.{started, begun, progressed, Concludes, on
 
 use limits::{Billed, Budget, Refusal, Resource};
 use rounds::Ran;
-use store::{Context, Counts, Done, Phase, Store};
+use store::{Counts, Done, Phase, Store};
 use thresholds::Entered;
 
 // Two cells for each argument.
@@ -26,9 +26,9 @@ fn enter_ends(table: &mut [i32], count: usize, budget: Budget) -> Entered
     requires { count + 2 ≤ length table.old }
     ensures { entered result table.new ≡ enter_ends (entry budget count table.old) }
 {
-    match thresholds::enter(table, count, -2147483648, budget) {
+    match thresholds::enter_counted(table, count, -2147483648, budget) {
         Entered::Stopped(stop, kept, n) => Entered::Stopped(stop, kept, n),
-        Entered::Done(paid, n) => thresholds::enter(table, n, 2147483647, paid),
+        Entered::Done(paid, n) => thresholds::enter_counted(table, n, 2147483647, paid),
     }
 }
 
@@ -91,7 +91,7 @@ fn ascend_and_end(
     growth: &mut [u32],
     bounds: &mut [u32],
     budget: Budget,
-    context: Context,
+    context: Option<u32>,
 ) -> Ran
     ensures { progressed result current.new growth.new bounds.new ≡ ascend_and_end (given (input nodes.now constants.now budget.limits.width) rules.now count seeds.now positions) thresholds.now (progress budget context current.old growth.old bounds.old) }
 {
@@ -119,7 +119,7 @@ fn finish(
     growth: &mut [u32],
     bounds: &mut [u32],
     budget: Budget,
-    context: Context,
+    context: Option<u32>,
 ) -> Ran
     ensures { progressed result current.new growth.new bounds.new ≡ finish (given (input nodes.now constants.now budget.limits.width) rules.now count seeds.now positions) thresholds.now (progress budget context current.old growth.old bounds.old) }
 {

@@ -12,8 +12,8 @@ use Rattle.limits.proofs.Ends.{Ends, completes, stops, ends_pure, ends_test, end
 use Rattle.keys.specs.Key.{Key, number, name}
 use Rattle.nodes.specs.declared.Expression.{Expression}
 use Rattle.rules.proofs.RuleLaws.{SmallContext}
-use Rattle.store.specs.declared.Context.{Context}
-use Rattle.store.specs.declared.Context.TheVariants.{Some}
+use Rattle.store.specs.Store.{Context}
+use Rattle.std.proofs.Common.{Some}
 use Rattle.store.specs.declared.Store.{Store}
 use Rattle.store.specs.Store.{with_context}
 use Rattle.store.specs.Calls.{open?, arity_of, first_of, context_call, work_call, argument_call}

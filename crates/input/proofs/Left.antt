@@ -27,7 +27,7 @@ use Rattle.rows.specs.Row.{row}
 use Rattle.rules.specs.declared.Rule.{Rule}
 use Rattle.rules.specs.Rule as rules
 use Rattle.rules.proofs.RuleLaws.{Short, Row, SmallContext}
-use Rattle.store.specs.declared.Context.{Context}
+use Rattle.store.specs.Store.{Context}
 use Rattle.store.specs.declared.Store.{Store}
 use Rattle.store.specs.Calls.{first_of, arity_of}
 use Rattle.store.proofs.Frame.{Spent, spent_none, Charging}

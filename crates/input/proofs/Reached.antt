@@ -24,7 +24,7 @@ use Rattle.rows.specs.Row.{row}
 use Rattle.rules.specs.declared.Rule.{Rule}
 use Rattle.rules.specs.Rule as rules
 use Rattle.rules.proofs.RuleLaws.{Row, SmallContext}
-use Rattle.store.specs.declared.Context.{Context}
+use Rattle.store.specs.Store.{Context}
 use Rattle.store.specs.declared.Phase.TheVariants.{Open, Absent}
 use Rattle.store.specs.declared.Counts.{Counts}
 use Rattle.store.specs.Store.{empty, fresh_of}

@@ -20,8 +20,8 @@ use Rattle.limits.proofs.Ends.{Ends, completes, stops, ends_as, ends_both, ends_
 use Rattle.rules.specs.declared.Head.{Head}
 use Rattle.rules.specs.declared.Rule.{Rule}
 use Rattle.rules.specs.Rule.{heads_of}
-use Rattle.store.specs.declared.Context.{Context}
-use Rattle.store.specs.declared.Context.TheVariants.{None, Some}
+use Rattle.store.specs.Store.{Context}
+use Rattle.std.proofs.Common.{None, Some}
 use Rattle.store.specs.declared.Store.{Store}
 use Rattle.store.specs.Store.{with_budget}
 use Rattle.store.specs.Calls.{open?, charged}

@@ -9,8 +9,8 @@ use lib.ListN.{length}
 use lib.Seq.{length-sets}
 use Rattle.integers.specs.Order.{Number}
 use Rattle.limits.specs.Refusal.{Told}
-use Rattle.store.specs.declared.Context.{Context}
-use Rattle.store.specs.declared.Context.TheVariants.{None}
+use Rattle.store.specs.Store.{Context}
+use Rattle.std.proofs.Common.{None}
 use Rattle.store.specs.declared.Store.{Store}
 use Rattle.store.specs.Calls.{predicate_call}
 use Rattle.store.specs.Calls as store

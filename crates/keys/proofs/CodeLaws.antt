@@ -21,8 +21,8 @@ use Rattle.limits.specs.Charge.{charge_of}
 use Rattle.limits.specs.Meter.{meter}
 use Rattle.limits.proofs.CodeLaws.{work_paid, work_stopped}
 use Rattle.cells.specs.Cells.{of_cell}
-use Rattle.search.specs.declared.Ordering.{Ordering}
-use Rattle.search.specs.declared.Ordering.TheVariants.{Less, Equal, Greater}
+use Rattle.std.specs.declared.cmp.Ordering.{Ordering}
+use Rattle.std.specs.declared.cmp.Ordering.TheVariants.{Less, Equal, Greater}
 use Rattle.search.specs.Seek.{middle}
 use Rattle.search.proofs.Turns.{At, at_end, at_stop, at_found, at_right, at_left, is_less, is_greater, is_equal}
 use Rattle.keys.specs.Key.{Key, compare_bytes, compare_keys, name_at, kind_at, payload_at, key_at, put_cells, put_name, key_of, probe, seek_key}

@@ -8,7 +8,7 @@ use lib.ListN.{length, get_or}
 use Rattle.integers.specs.Lists.{inserted}
 use Rattle.integers.proofs.ListLaws.{Compared, less, more, same, compared}
 use Rattle.limits.proofs.Monad.{Ensures, weaken}
-use Rattle.search.specs.declared.Ordering.TheVariants.{Less, Equal, Greater}
+use Rattle.std.specs.declared.cmp.Ordering.TheVariants.{Less, Equal, Greater}
 use Rattle.search.specs.Seek.{found, absent}
 use Rattle.search.proofs.Turns.{is_less, is_greater, is_equal}
 use Rattle.search.proofs.Total.{turn, Total, Sorted, before_turn, after_turn, alike, rising, Gap, gap, its_place, inserted_sorted}

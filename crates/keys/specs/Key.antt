@@ -5,8 +5,8 @@ use Rattle.limits.specs.declared.Stop.{Stop}
 use Rattle.limits.specs.Metered.{Metered}
 use Rattle.limits.specs.declared.Meter.{Meter}
 use Rattle.cells.specs.Cells.{of_cell}
-use Rattle.search.specs.declared.Ordering.{Ordering}
-use Rattle.search.specs.declared.Ordering.TheVariants.{Less, Equal, Greater}
+use Rattle.std.specs.declared.cmp.Ordering.{Ordering}
+use Rattle.std.specs.declared.cmp.Ordering.TheVariants.{Less, Equal, Greater}
 use Rattle.search.specs.Seek.{Place, by, compareℕ, compareℤ, seek}
 
 -- "a key is a signed 32-bit number or a name of 0 to 64 bytes"

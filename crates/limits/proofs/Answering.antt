@@ -6,6 +6,8 @@ use Rattle.std.proofs.lemmas.Result.{err_from_is_err_and}
 use Rattle.limits.specs.Metered.{Run, going, stopped, answered}
 use Rattle.limits.specs.Refusal.{Told, told, replied}
 use Rattle.limits.specs.declared.Refusal.{Refusal}
+use Rattle.limits.specs.declared.Refusal.TheVariants.{Limit}
+use Rattle.limits.specs.declared.Stop.{Stop}
 
 module _ {E S A : Type 0} {r : Result A E} {s : S} {y : Run E S A} (h : answered r s ≡ y) where
   pub went : {a : A} → r ≡ Ok a → going a s ≡ y
@@ -18,6 +20,11 @@ module _ {E S A : Type 0} {r : Result A E} {s : S} {y : Run E S A} (h : answered
 module _ {E S A : Type 0} {s : S} {y : Run E S A} where
   pub exits : (x : Result A E) {e : E} → IsErrAnd x (λ d. d ≡ e) → stopped e s ≡ y → answered x s ≡ y
   exits x h k = let p = err_from_is_err_and x h in rw (p.1, p.2) k
+
+-- the exit of a `?` that makes a refusal of a stop
+module _ {S A : Type 0} {s : S} {y : Run Told S A} where
+  pub limits : (x : Result A Refusal) (e : Stop) → IsErrAnd x (λ d. d ≡ Limit e) → stopped (told (Limit e)) s ≡ y → replied x s ≡ y
+  limits x e h k = let p = err_from_is_err_and x h in rw (p.1, p.2) k
 
 -- ---- the same for calls, whose refusals are told by number and values
 

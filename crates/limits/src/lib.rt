@@ -6,6 +6,7 @@ ghost use Rattle.std.specs.Prelude.{◌≡◌, ◌-◌};
 ghost use Rattle.limits.specs.Charge.{charge_of, units_of, sum_of};
 ghost use Rattle.limits.specs.Records.{count_of, limit_of, with_count, with_statistics, fresh};
 ghost use Rattle.limits.specs.Refusal.{resource_number, told};
+ghost use Rattle.limits.specs.declared.Refusal.TheVariants.{Limit};
 ghost use Rattle.limits.specs.Budget.{ran, charge, released, widened_once};
 ghost use Rattle.limits.specs.Meter.{meter, meter_of, with_meter, units, retain, work as metered_work, released as fewer, held_through};
 ghost use Rattle.limits.specs.Metered.{answered};
@@ -252,6 +253,14 @@ impl Refusal {
             Refusal::Descending => 5,
             Refusal::MissingSlot => 5,
         }
+    }
+}
+
+impl From<Stop> for Refusal {
+    ghost from_gives = { λ s r. r ≡ Limit s };
+
+    fn from(stop: Stop) -> Refusal {
+        Refusal::Limit(stop)
     }
 }
 

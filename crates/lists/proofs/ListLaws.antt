@@ -12,8 +12,8 @@ use Rattle.integers.specs.Lists.{Increasing}
 use Rattle.integers.proofs.ListLaws.{rises, has, has_at, at_has}
 use Rattle.limits.specs.Meter.{work, release, holding}
 use Rattle.limits.proofs.Monad.{Ensures, by_pure, by_test, bind, then}
-use Rattle.search.specs.declared.Ordering.{Ordering}
-use Rattle.search.specs.declared.Ordering.TheVariants.{Less, Greater}
+use Rattle.std.specs.declared.cmp.Ordering.{Ordering}
+use Rattle.std.specs.declared.cmp.Ordering.TheVariants.{Less, Greater}
 use Rattle.search.specs.Seek.{Place, found, absent, found?, compareℕ}
 use Rattle.search.proofs.Turns.{is_less, is_greater, less_is, greater_is, equal_is}
 use Rattle.search.proofs.Complete.{Rising, Ends, search_ends}

@@ -8,7 +8,7 @@ use Rattle.cells.specs.Cells.{of_cell}
 use Rattle.lattice.specs.Value.{Value}
 use Rattle.rows.specs.Row.{row, integrality_of, interval_of, value_at}
 use Rattle.keys.specs.Key.{name_at, kind_at, payload_at}
-use Rattle.store.specs.declared.Context.{Context}
+use Rattle.store.specs.Store.{Context}
 use Rattle.store.specs.declared.Phase.{Phase}
 use Rattle.store.specs.declared.Phase.TheVariants.{Absent, Open, Completed, Stopped}
 use Rattle.store.specs.declared.Store.{Store}

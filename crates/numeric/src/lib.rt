@@ -12,7 +12,7 @@ ghost use Rattle.numeric.specs.Answers.{permits, value_read, count_read, bound_r
 use interval::Bound;
 use lattice::Abstract;
 use limits::{Refusal, Stop};
-use store::{Context, Phase, Store};
+use store::{Phase, Store};
 
 // Whether a reading is given.
 #[derive(Clone, Copy)]
@@ -55,7 +55,7 @@ pub enum Keyed {
 #[derive(Clone, Copy)]
 pub enum Ended {
     Completed,
-    Stopped(Stop, Context),
+    Stopped(Stop, Option<u32>),
     Refused(Refusal),
 }
 

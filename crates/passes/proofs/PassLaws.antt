@@ -13,7 +13,7 @@ use Rattle.limits.specs.Budget.{released}
 use Rattle.limits.proofs.Monad.{pure_is, bind_on, bind_stop, through_on, through_stop}
 use Rattle.limits.proofs.Onward.{Onward, onward_begins, bind_stops, bind_goes}
 use Rattle.slots.specs.Slots.{total}
-use Rattle.store.specs.declared.Context.{Context}
+use Rattle.store.specs.Store.{Context}
 use Rattle.rounds.specs.declared.Ran.{Ran}
 use Rattle.rounds.specs.declared.Ran.TheVariants.{Done, Stopped}
 use Rattle.rounds.specs.Round.{Given, standing, course, image, blank, candidates_of, candidates, moved}

@@ -25,7 +25,7 @@ use Rattle.rows.proofs.Good.{Good}
 use Rattle.rows.proofs.RowLaws.{length_put, put_back, put_other}
 use Rattle.slots.specs.Slots.{total}
 use Rattle.slots.proofs.Live.{formed_put, total_before}
-use Rattle.store.specs.declared.Context.{Context}
+use Rattle.store.specs.Store.{Context}
 use Rattle.seeds.specs.Seed.{loses}
 use Rattle.widening.specs.declared.Growth.{Growth}
 use Rattle.widening.specs.Widening.{growth_at, put_growth}

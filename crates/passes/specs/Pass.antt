@@ -5,7 +5,7 @@ use Rattle.limits.specs.declared.Budget.{Budget}
 use Rattle.limits.specs.Metered.{Run, going, stopped, Metered, pure, ◌>>=◌, zoom}
 use Rattle.limits.specs.Budget.{released}
 use Rattle.slots.specs.Slots.{total}
-use Rattle.store.specs.declared.Context.{Context}
+use Rattle.store.specs.Store.{Context}
 use Rattle.rounds.specs.Round.{Given, Course, course, blank, candidates, moved}
 use Rattle.passes.specs.Step.{Steps, steps, advance}
 

@@ -17,7 +17,6 @@ use lattice::{Abstract, Outcome};
 use limits::{Budget, Charged, Resource, Stop};
 use lists::Verdict;
 use rounds::Ran;
-use store::Context;
 use widening::{Growth, Widened};
 
 // The new value of an argument, its growth, and whether it has changed. Where the outcome is a stop the three mean nothing.
@@ -41,9 +40,9 @@ pub enum Advanced {
 // What a pass leaves: whether it has changed a bound or a list.
 #[derive(Clone, Copy)]
 pub enum Passed {
-    Settled(Budget, Context),
-    Changed(Budget, Context),
-    Stopped(Stop, Budget, Context),
+    Settled(Budget, Option<u32>),
+    Changed(Budget, Option<u32>),
+    Stopped(Stop, Budget, Option<u32>),
 }
 
 // The same value with another interval.
@@ -272,7 +271,7 @@ fn renew(
     current: &mut [u32],
     growth: &mut [u32],
     budget: Budget,
-    context: Context,
+    context: Option<u32>,
 ) -> Passed
     ensures { passed_to result current.new growth.new ≡ renew positions thresholds.now candidates.now (ascent budget context current.old growth.old) }
 {
@@ -309,7 +308,7 @@ pub fn pass(
     current: &mut [u32],
     growth: &mut [u32],
     budget: Budget,
-    context: Context,
+    context: Option<u32>,
 ) -> Passed
     ensures { passed_to result current.new growth.new ≡ pass (given (input nodes.now constants.now budget.limits.width) rules.now count seeds.now positions) thresholds.now (ascent budget context current.old growth.old) }
 {
@@ -351,7 +350,7 @@ pub fn ascend(
     current: &mut [u32],
     growth: &mut [u32],
     budget: Budget,
-    context: Context,
+    context: Option<u32>,
 ) -> Ran
     ensures { ascended result current.new growth.new ≡ ascend (given (input nodes.now constants.now budget.limits.width) rules.now count seeds.now positions) thresholds.now (ascent budget context current.old growth.old) }
 {

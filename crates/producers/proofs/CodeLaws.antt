@@ -51,8 +51,8 @@ use Rattle.provenance.specs.Provenance.{Records, records, provenance, recordable
 use Rattle.provenance.specs.Answers.{Recorded}
 use Rattle.provenance.proofs.CodeLaws.{recorded_on, recorded_stop}
 use Rattle.provenance.proofs.Frame.{provenance_left}
-use Rattle.store.specs.declared.Context.{Context}
-use Rattle.store.specs.declared.Context.TheVariants.{None, Some}
+use Rattle.store.specs.Store.{Context}
+use Rattle.std.proofs.Common.{None, Some}
 use Rattle.store.specs.Calls.{unless, charged}
 use Rattle.producers.specs.declared.Checked.{Checked}
 use Rattle.producers.specs.declared.Checked.TheVariants.{Passed, Refused}

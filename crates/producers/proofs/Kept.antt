@@ -28,8 +28,8 @@ use Rattle.rules.specs.declared.Head.{Head}
 use Rattle.rules.specs.declared.Rule.{Rule}
 use Rattle.rules.specs.Rule.{bindings_of, guards_of, heads_of, row}
 use Rattle.rules.proofs.RuleLaws.{Short, SmallContext, Row, rule_back, rule_kept, length_rule}
-use Rattle.store.specs.declared.Context.{Context}
-use Rattle.store.specs.declared.Context.TheVariants.{None, Some}
+use Rattle.store.specs.Store.{Context}
+use Rattle.std.proofs.Common.{None, Some}
 use Rattle.store.specs.declared.Store.{Store}
 use Rattle.store.specs.Store.{with_budget, with_rules, with_provenance}
 use Rattle.store.specs.Calls.{open?, charged}

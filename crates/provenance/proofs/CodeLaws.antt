@@ -17,22 +17,15 @@ use Rattle.limits.specs.Refusal.{Told, told}
 use Rattle.limits.specs.Metered.{Run, going, stopped, pure, after, ◌>>=◌, ◌>>◌, mapped, through}
 use Rattle.limits.specs.Budget.{links}
 use Rattle.limits.proofs.Monad.{then_on, then_stop, through_on, through_stop}
-use Rattle.store.specs.declared.Context.{Context}
-use Rattle.store.specs.declared.Context.TheVariants.{None, Some}
+use Rattle.store.specs.Store.{Context}
+use Rattle.std.proofs.Common.{None, Some}
 use Rattle.store.specs.declared.Store.{Store}
-use Rattle.store.specs.declared.Done.{Done}
-use Rattle.store.specs.declared.Done.TheVariants.{Ok, Refused}
 use Rattle.store.specs.Store.{with_budget, with_provenance}
 use Rattle.store.specs.Calls.{charged}
-use Rattle.store.specs.Answers.{done}
 use Rattle.store.proofs.CodeLaws.{charged_counts}
 use Rattle.provenance.specs.Provenance.{Records, records, paying, add_record, record_in, provenance, recordable, Room}
-use Rattle.provenance.specs.Answers.{Recorded, on_records}
 
 -- ---- room
-
-pub some_recordable : {context : Context} {c : ℕ} (standing : ℕ) → context ≡ Some c → leb standing 1008 ≡ recordable context standing
-some_recordable standing e = rw e
 
 -- with a context in force there is room for n records more
 pub room_for : {context : Context} {c : ℕ} (n standing : ℕ) → context ≡ Some c → Room n context standing → standing + n ≤ 1024
@@ -48,38 +41,23 @@ two_cells t n a c p q = rw (q, p, add-one (2 * n))
 in_force : (a : ℕ) (r : Records) {context : Context} {c : ℕ} {x : Run Told Records (Unit {0})} → context ≡ Some c → x ≡ (paying (links 1) >> add_record a c) r → x ≡ record_in a context r
 in_force a r e h = rw e h
 
-module _ (a : ℕ) (s : Store) (t : List ℕ) where
-  pub provenance_missing : s.counts.positions ≤ a → Recorded a s t (Refused Missing s) t
+pub provenance_none : (a : ℕ) (s : Store) (t : List ℕ) → a < s.counts.positions → s.context ≡ None → going tt (records s t) ≡ provenance a (records s t)
+unfolding provenance pure
+provenance_none a s t h e = rw (lt-ltb a s.counts.positions h, e)
+
+module _ (a : ℕ) (s : Store) (t : List ℕ) (h : a < s.counts.positions) {c : ℕ} (e : s.context ≡ Some c) where
+  pub provenance_unpaid : (x : Refusal) {u : Store} → stopped (told x) u ≡ charged (links 1) s → stopped (told x) (records u t) ≡ provenance a (records s t)
   unfolding provenance
-  provenance_missing h = record { is = rw (le-ltb a s.counts.positions h) }
+  provenance_unpaid x p = rw (lt-ltb a s.counts.positions h) (in_force a (records s t) e (then_stop _ (records s t) _ (through_stop _ _ _ _ (charged (links 1)) (records s t) p)))
 
-  module _ (h : a < s.counts.positions) where
-    pub provenance_none : s.context ≡ None → Recorded a s t (Ok s) t
-    unfolding provenance pure
-    provenance_none e = record { is = rw (lt-ltb a s.counts.positions h, e) }
-
-    module _ {c : ℕ} (e : s.context ≡ Some c) {r : Done} (p : done r ≡ charged (links 1) s) where
-      pub provenance_unpaid : {x : Refusal} {u : Store} → r ≡ Refused x u → Recorded a s t (Refused x u) t
-      unfolding provenance
-      provenance_unpaid q =
-          record { is = rw (lt-ltb a s.counts.positions h) (in_force a (records s t) e (then_stop _ (records s t) _ (through_stop _ _ _ _ (charged (links 1)) (records s t) (sym (ap done q) ∙ p)))) }
-
-      pub provenance_new : {u w : Store} {t' : List ℕ} → r ≡ Ok u → w ≡ with_provenance (u.counts.provenance + 1) u → t' ≡ sets t (2 * s.counts.provenance) (a ∷ c ∷ []) →
-          Recorded a s t (Ok w) t'
-      unfolding provenance
-      provenance_new {u} q w i =
-          let paid = sym (ap done q) ∙ p in
-          let k : u.counts ≡ s.counts = charged_counts (links 1) s paid in
-          record { is = rw (lt-ltb a s.counts.positions h) (in_force a (records s t) e (then_on _ (records s t) _ (through_on _ _ _ _ (charged (links 1)) (records s t) paid) (rw (w, i, k)))) }
+  pub provenance_new : {u : Store} {t' : List ℕ} → going tt u ≡ charged (links 1) s → t' ≡ sets t (2 * u.counts.provenance) (a ∷ c ∷ []) →
+      going tt (records (with_provenance (u.counts.provenance + 1) u) t') ≡ provenance a (records s t)
+  unfolding provenance
+  provenance_new p i =
+      rw (lt-ltb a s.counts.positions h)
+      (in_force a (records s t) e (then_on _ (records s t) _ (through_on _ _ _ _ (charged (links 1)) (records s t) p) (rw i)))
 
 -- ---- for callers
-
-module _ {r : Done} {t : List ℕ} {y : Run Told Records (Unit {0})} where
-  pub recorded_on : {u : Store} → r ≡ Ok u → on_records r t ≡ y → going tt (records u t) ≡ y
-  recorded_on e h = sym (ap (λ (x : Done). on_records x t) e) ∙ h
-
-  pub recorded_stop : {x : Refusal} {u : Store} → r ≡ Refused x u → on_records r t ≡ y → stopped (told x) (records u t) ≡ y
-  recorded_stop e h = sym (ap (λ (x : Done). on_records x t) e) ∙ h
 
 -- a record leaves the thresholds' count as it was
 pub provenance_thresholds : (a : ℕ) (s : Store) (t : List ℕ) {u : Store} {t' : List ℕ} → going tt (records u t') ≡ provenance a (records s t) → u.counts.thresholds ≡ s.counts.thresholds

@@ -8,8 +8,8 @@ use lib.Seq.{sets}
 use Rattle.limits.specs.declared.Budget.{Budget}
 use Rattle.limits.specs.Budget.{links}
 use Rattle.limits.proofs.Ends.{Ends, completes, stops, ends_pure, ends_test, ends_then, ends_through}
-use Rattle.store.specs.declared.Context.{Context}
-use Rattle.store.specs.declared.Context.TheVariants.{None, Some}
+use Rattle.store.specs.Store.{Context}
+use Rattle.std.proofs.Common.{None, Some}
 use Rattle.store.specs.Store.{with_budget, with_provenance}
 use Rattle.store.specs.Calls.{charged}
 use Rattle.store.proofs.Frame.{Spent, spent_more, Charging, charging_none, charged_left, spends_links}

@@ -1,2 +1,1 @@
 pub mod Provenance
-pub mod Answers

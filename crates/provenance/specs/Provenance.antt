@@ -7,8 +7,8 @@ use Rattle.limits.specs.declared.Refusal.TheVariants.{Missing}
 use Rattle.limits.specs.Refusal.{Told}
 use Rattle.limits.specs.Metered.{going, Metered, pure, ◌>>◌, zoom}
 use Rattle.limits.specs.Budget.{links}
-use Rattle.store.specs.declared.Context.{Context}
-use Rattle.store.specs.declared.Context.TheVariants.{None, Some}
+use Rattle.store.specs.Store.{Context}
+use Rattle.std.specs.Prelude.{None, Some}
 use Rattle.store.specs.declared.Store.{Store}
 use Rattle.store.specs.Store.{with_provenance}
 use Rattle.store.specs.Calls.{unless, charged}

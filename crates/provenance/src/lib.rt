@@ -3,24 +3,20 @@
 
 ghost use Rattle.std.specs.Prelude.{◌≡◌, ◌+◌, ◌*◌, ◌≤◌, [], ◌∷◌};
 ghost use Rattle.std.proofs.lemmas.List.Edits.{sets};
-ghost use Rattle.store.specs.Store.{with_provenance};
-ghost use Rattle.provenance.specs.Provenance.{recordable, Room};
-ghost use Rattle.provenance.specs.Answers.{Recorded};
+ghost use Rattle.limits.specs.Refusal.{replied};
+ghost use Rattle.provenance.specs.Provenance.{records, provenance, recordable, Room};
 
 use limits::{Refusal, Resource};
-use store::{Context, Done, Store};
+use store::Store;
 
 // The records that the table has rows for.
 pub const RECORDS: usize = 1024;
 
 // Whether the table has room for what one call records.
-pub fn is_recordable(context: Context, standing: usize) -> bool
+pub fn is_recordable(context: Option<u32>, standing: usize) -> bool
     ensures { result ≡ recordable context standing }
 {
-    match context {
-        Context::None => true,
-        Context::Some(_) => standing <= 1008,
-    }
+    context.is_none() || standing <= 1008
 }
 
 // The two cells of a record.
@@ -32,34 +28,20 @@ fn put_record(table: &mut [u32], number: usize, argument: u32, context: u32)
     cells::put_cell(table, 2 * number + 1, context);
 }
 
-// The same header with one record more.
-fn with_record(store: Store) -> Store
-    requires { store.counts.provenance ≤ 1024 }
-    ensures { result ≡ with_provenance (store.counts.provenance + 1) store }
-{
-    let mut counts = store.counts;
-    counts.provenance = counts.provenance + 1;
-    store.with_counts(counts)
-}
-
 // An argument is produced under the context in force; the call has tested that there is room.
-pub fn provenance(store: Store, argument: u64, table: &mut [u32]) -> Done
-    requires { (store.counts.positions ≤ 256) × Room 1 store.context store.counts.provenance }
-    ensures { Recorded argument store table.old result table.new }
+#[tactic(auto, unfolding(crate::specs::Provenance::provenance))]
+pub fn provenance(store: &mut Store, argument: u64, table: &mut [u32]) -> Result<(), Refusal>
+    requires { (store.old.counts.positions ≤ 256) × Room 1 store.old.context store.old.counts.provenance }
+    ensures { replied result (records store.new table.new) ≡ provenance argument (records store.old table.old) }
 {
-    let counts = store.counts;
-    let context = store.context;
-    if counts.positions as u64 <= argument {
-        return Done::Refused(Refusal::Missing, store);
+    if store.counts.positions as u64 <= argument {
+        return Err(Refusal::Missing);
     }
-    match context {
-        Context::None => Done::Ok(store),
-        Context::Some(number) => match store.charge(Resource::Links, 1) {
-            Done::Refused(refusal, kept) => Done::Refused(refusal, kept),
-            Done::Ok(paid) => {
-                put_record(table, counts.provenance, argument as u32, number);
-                Done::Ok(with_record(paid))
-            }
-        },
-    }
+    let Some(context) = store.context else {
+        return Ok(());
+    };
+    store.pay(Resource::Links, 1)?;
+    put_record(table, store.counts.provenance, argument as u32, context);
+    store.counts.provenance += 1;
+    Ok(())
 }

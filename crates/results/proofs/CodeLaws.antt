@@ -26,7 +26,7 @@ use Rattle.limits.proofs.Onward.{onward_begins}
 use Rattle.interval.specs.declared.Bound.{Bound}
 use Rattle.lattice.specs.Value.{Value}
 use Rattle.rows.specs.Row.{bound_cells, value_at}
-use Rattle.store.specs.declared.Context.{Context}
+use Rattle.store.specs.Store.{Context}
 use Rattle.slots.specs.declared.Counted.{Counted}
 use Rattle.slots.specs.declared.Counted.TheVariants.{Going}
 use Rattle.slots.specs.declared.Counted.TheVariants as counts

@@ -7,7 +7,7 @@ use Rattle.limits.specs.Metered.{going, Metered, pure, ◌>>=◌, ◌>>◌, zoom
 use Rattle.limits.specs.Budget.{work, released}
 use Rattle.interval.specs.declared.Bound.{Bound}
 use Rattle.rows.specs.Row.{bound_cells, value_at}
-use Rattle.store.specs.declared.Context.{Context}
+use Rattle.store.specs.Store.{Context}
 use Rattle.rules.specs.Read.{slots_at}
 use Rattle.slots.specs.Slots.{Slots, slots, total, step}
 use Rattle.evaluation.specs.Evaluation.{Input}

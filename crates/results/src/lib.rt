@@ -17,7 +17,6 @@ use interval::Bound;
 use limits::{Billed, Budget, Charged, Resource};
 use rounds::Ran;
 use slots::Counted;
-use store::Context;
 
 // The rules and the slots of a rule that a table of bounds has places for, the cells of a rule, and all of them.
 pub const RULES: usize = 256;
@@ -193,7 +192,7 @@ fn bound_rules(
     current: &[u32],
     bounds: &mut [u32],
     budget: Budget,
-    context: Context,
+    context: Option<u32>,
 ) -> Ran
     ensures { ran result bounds.new ≡ each_rule rules.now (bound (input nodes.now constants.now budget.limits.width) rules.now current.now) 0 count (standing budget context bounds.old) }
 {
@@ -225,7 +224,7 @@ pub fn close(
     current: &[u32],
     bounds: &mut [u32],
     budget: Budget,
-    context: Context,
+    context: Option<u32>,
 ) -> Ran
     ensures { ran result bounds.new ≡ close (input nodes.now constants.now budget.limits.width) rules.now count positions current.now (standing budget context bounds.old) }
 {
@@ -250,7 +249,7 @@ fn last_round(
     positions: usize,
     current: &mut [u32],
     budget: Budget,
-    context: Context,
+    context: Option<u32>,
 ) -> Ran
     ensures { ran result current.new ≡ last_round (given (input nodes.now constants.now budget.limits.width) rules.now count seeds.now positions) (standing budget context current.old) }
 {
@@ -287,7 +286,7 @@ pub fn last(
     current: &mut [u32],
     bounds: &mut [u32],
     budget: Budget,
-    context: Context,
+    context: Option<u32>,
 ) -> Ran
     ensures { ended result current.new bounds.new ≡ last (given (input nodes.now constants.now budget.limits.width) rules.now count seeds.now positions) (ending budget context current.old bounds.old) }
 {

@@ -30,7 +30,7 @@ use Rattle.lattice.specs.Value.{Value, value_of}
 use Rattle.lattice.specs.Lattice.{join}
 use Rattle.lattice.specs.Answers.{made}
 use Rattle.rows.specs.Row.{entries_of, value_at, put}
-use Rattle.store.specs.declared.Context.{Context}
+use Rattle.store.specs.Store.{Context}
 use Rattle.rules.specs.declared.Head.{Head}
 use Rattle.rules.specs.Read.{slots_at, context_at}
 use Rattle.slots.specs.declared.Counted.{Counted}

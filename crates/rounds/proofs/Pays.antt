@@ -11,7 +11,7 @@ use Rattle.limits.specs.declared.Meter.{Meter}
 use Rattle.limits.specs.Meter.{meter_of, with_meter}
 use Rattle.limits.proofs.ChargeLaws.{Charges, accepted, refused, charge_does}
 use Rattle.limits.proofs.Ends.{Ends, completes, stops, ends_pure, ends_as, ends_then, ends_through, on_then, in_some_way}
-use Rattle.store.specs.declared.Context.{Context}
+use Rattle.store.specs.Store.{Context}
 use Rattle.rules.specs.Read.{context_at}
 use Rattle.slots.specs.Slots.{Slots, slots, total, copies}
 use Rattle.rounds.specs.Round.{Given, Standing, standing, in_table, holding_rows, entering, each_rule, apply, produce, image, Course, blank, candidates_of, candidates}

@@ -8,7 +8,7 @@ use Rattle.limits.specs.Meter.{meter_of, with_meter}
 use Rattle.lattice.specs.Value.{Value}
 use Rattle.lattice.specs.Lattice.{join}
 use Rattle.rows.specs.Row.{row, value_at, put}
-use Rattle.store.specs.declared.Context.{Context}
+use Rattle.store.specs.Store.{Context}
 use Rattle.rules.specs.declared.Head.{Head}
 use Rattle.rules.specs.Read.{context_at, heads_at}
 use Rattle.slots.specs.Slots.{Slots, slots, total, paying, dropping, replace, each, copies}

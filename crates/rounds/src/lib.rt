@@ -21,7 +21,6 @@ use lattice::{Abstract, Outcome};
 use limits::{Billed, Budget, Charged, Resource, Stop};
 use rules::Head;
 use slots::Counted;
-use store::Context;
 
 // The cells of a table of a rule's slots, and of the refinements that its guards record.
 pub const LOCALS: usize = 384;
@@ -34,8 +33,8 @@ pub const ARGUMENTS: usize = 6144;
 // The budget after a step of a run, and the context in force there.
 #[derive(Clone, Copy)]
 pub enum Ran {
-    Done(Budget, Context),
-    Stopped(Stop, Budget, Context),
+    Done(Budget, Option<u32>),
+    Stopped(Stop, Budget, Option<u32>),
 }
 
 // The slots of one rule, a unit of work before them.
@@ -322,7 +321,7 @@ fn apply_rules(
     previous: &[u32],
     res: &mut [u32],
     budget: Budget,
-    context: Context,
+    context: Option<u32>,
 ) -> Ran
     ensures { ran result res.new ≡ each_rule rules.now (apply (input nodes.now constants.now budget.limits.width) rules.now previous.now) 0 count (standing budget context res.old) }
 {
@@ -397,7 +396,7 @@ fn produce(
     previous: &[u32],
     res: &mut [u32],
     budget: Budget,
-    context: Context,
+    context: Option<u32>,
 ) -> Ran
     ensures { ran result res.new ≡ produce (given (input nodes.now constants.now budget.limits.width) rules.now count seeds.now positions) previous.now (standing budget context res.old) }
 {
@@ -425,7 +424,7 @@ pub fn image(
     previous: &[u32],
     res: &mut [u32],
     budget: Budget,
-    context: Context,
+    context: Option<u32>,
 ) -> Ran
     ensures { ran result res.new ≡ image (given (input nodes.now constants.now budget.limits.width) rules.now count seeds.now positions) previous.now (standing budget context res.old) }
 {

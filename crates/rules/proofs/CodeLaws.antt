@@ -8,7 +8,7 @@ use mathlib.Core.List.{List, [], ◌∷◌, ◌++◌, map, map-append}
 use lib.ListN.{length, get_or, take, drop, set, length-map, length-take, drop_of_length-le, get_or-eq_default}
 use lib.Seq.{sets, drop-cons, get_or-take}
 use Rattle.integers.proofs.Stores.{get_or_min}
-use Rattle.store.specs.declared.Context.{Context}
+use Rattle.store.specs.Store.{Context}
 use Rattle.rules.specs.declared.AggregateFunction.{AggregateFunction}
 use Rattle.rules.specs.declared.AggregateFunction.TheVariants.{Count, Sum, SumPlus, Min, Max}
 use Rattle.rules.specs.declared.Relation.{Relation}

@@ -9,8 +9,8 @@ use lib.Seq.{sets, length-sets, get_or-append-add}
 use Rattle.integers.specs.Lists.{All, from}
 use Rattle.integers.proofs.ListLaws.{Compared, less, more, same, compared, from_list}
 use Rattle.integers.proofs.Stores.{sets_before, sets_after, sets_in}
-use Rattle.store.specs.declared.Context.{Context}
-use Rattle.store.specs.declared.Context.TheVariants.{None, Some}
+use Rattle.store.specs.Store.{Context}
+use Rattle.std.proofs.Common.{None, Some}
 use Rattle.rules.specs.declared.AggregateFunction.{AggregateFunction}
 use Rattle.rules.specs.declared.AggregateFunction.TheVariants.{Count, Sum, SumPlus, Min, Max}
 use Rattle.rules.specs.declared.Relation.{Relation}

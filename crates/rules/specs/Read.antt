@@ -2,8 +2,8 @@
 -- reads as the first, and the number of a function or a relation that does not exist as the last.
 use Rattle.std.specs.Prelude.{ℕ, min, ◌+◌, ◌*◌, cond, List, [], ◌∷◌, eqb, get_or}
 use Rattle.integers.specs.Lists.{from}
-use Rattle.store.specs.declared.Context.{Context}
-use Rattle.store.specs.declared.Context.TheVariants.{None, Some}
+use Rattle.store.specs.Store.{Context}
+use Rattle.std.specs.Prelude.{None, Some}
 use Rattle.rules.specs.declared.AggregateFunction.{AggregateFunction}
 use Rattle.rules.specs.declared.AggregateFunction.TheVariants.{Count, Sum, SumPlus, Min, Max}
 use Rattle.rules.specs.declared.Relation.{Relation}

@@ -1,8 +1,8 @@
 -- A rule as a row of cells in a lent table: its slots, its context and how many bindings, guards and heads it has, then these.
 use Rattle.std.specs.Prelude.{ℕ, ◌+◌, ◌*◌, ◌%◌, ◌^◌, List, [], ◌∷◌, ◌++◌, map, take}
 use Rattle.std.proofs.lemmas.List.Edits.{sets}
-use Rattle.store.specs.declared.Context.{Context}
-use Rattle.store.specs.declared.Context.TheVariants.{None, Some}
+use Rattle.store.specs.Store.{Context}
+use Rattle.std.specs.Prelude.{None, Some}
 use Rattle.rules.specs.declared.AggregateFunction.{AggregateFunction}
 use Rattle.rules.specs.declared.AggregateFunction.TheVariants.{Count, Sum, SumPlus, Min, Max}
 use Rattle.rules.specs.declared.Relation.{Relation}

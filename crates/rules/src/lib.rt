@@ -6,7 +6,6 @@ ghost use Rattle.std.proofs.lemmas.List.Edits.{sets};
 ghost use Rattle.rules.specs.Rule.{function_number, relation_number, binding_cells, guard_cells, head_cells, mark_of, number_of, fixed_cells, flat, cell, row, put_rule};
 ghost use Rattle.rules.specs.Read.{function_of, relation_of, binding_of, guard_of, head_of, context_of, slots_at, context_at, binding_count, guard_count, head_count, binding_at, guard_at, head_at};
 
-use store::Context;
 
 #[derive(Clone, Copy)]
 pub enum AggregateFunction {
@@ -216,26 +215,26 @@ fn put_heads(cells: &mut [u32], at: usize, heads: [Head; 16], count: usize)
     }
 }
 
-fn context_mark(context: Context) -> u64
+fn context_mark(context: Option<u32>) -> u64
     ensures { result ≡ mark_of context }
 {
     match context {
-        Context::None => 0,
-        Context::Some(_) => 1,
+        None => 0,
+        Some(_) => 1,
     }
 }
 
-fn context_number(context: Context) -> u64
+fn context_number(context: Option<u32>) -> u64
     ensures { result ≡ number_of context }
 {
     match context {
-        Context::None => 0,
-        Context::Some(number) => number as u64,
+        None => 0,
+        Some(number) => number as u64,
     }
 }
 
 // The cells before the bindings.
-fn put_fixed(cells: &mut [u32], at: usize, rule: Rule, context: Context)
+fn put_fixed(cells: &mut [u32], at: usize, rule: Rule, context: Option<u32>)
     requires { at ≤ 75000 }
     ensures { cells.new ≡ sets cells.old at (map cell (fixed_cells rule context)) }
 {
@@ -248,7 +247,7 @@ fn put_fixed(cells: &mut [u32], at: usize, rule: Rule, context: Context)
 }
 
 // A rule and its context, as the row of this id.
-pub fn put_rule(cells: &mut [u32], id: usize, rule: Rule, context: Context)
+pub fn put_rule(cells: &mut [u32], id: usize, rule: Rule, context: Option<u32>)
     requires { (id < 256) × ((rule.lengths.bindings ≤ 32) × ((rule.lengths.guards ≤ 32) × (rule.lengths.heads ≤ 16))) }
     ensures { cells.new ≡ put_rule cells.old id rule context }
 {
@@ -379,13 +378,13 @@ fn guard_of(kind: u32, a: u32, b: u32, c: u32) -> Guard
     }
 }
 
-fn context_of(mark: u32, number: u32) -> Context
+fn context_of(mark: u32, number: u32) -> Option<u32>
     ensures { result ≡ context_of mark number }
 {
     if mark == 0 {
-        return Context::None;
+        return None;
     }
-    Context::Some(number)
+    Some(number)
 }
 
 // A count, or what a row has room for.
@@ -405,7 +404,7 @@ pub fn slots_at(cells: &[u32], id: usize) -> u64
     at_most(cells::cell_at(cells, at), 16) as u64
 }
 
-pub fn context_at(cells: &[u32], id: usize) -> Context
+pub fn context_at(cells: &[u32], id: usize) -> Option<u32>
     ensures { result ≡ context_at cells.now id }
 {
     let at = start(cells.len(), id);

@@ -10,8 +10,8 @@ use Rattle.limits.specs.Metered.{going, Metered}
 use Rattle.limits.specs.declared.Meter.{Meter}
 use Rattle.limits.specs.Meter.{work}
 use Rattle.limits.proofs.Monad.{Holds, Ensures, weaken, by_pure, by_test, then, Steady, steady_pure, steady_unit, steady_test, steady_then}
-use Rattle.search.specs.declared.Ordering.{Ordering}
-use Rattle.search.specs.declared.Ordering.TheVariants.{Less, Equal, Greater}
+use Rattle.std.specs.declared.cmp.Ordering.{Ordering}
+use Rattle.std.specs.declared.cmp.Ordering.TheVariants.{Less, Equal, Greater}
 use Rattle.search.specs.Seek.{Place, found, absent, by, middle, seek}
 
 by_ordering : {P : Place → Type 0} (o : Ordering) {x y z : Metered Stop Meter Place} →

@@ -7,7 +7,7 @@ use lib.IntN.{ℤ}
 use lib.Signed.{lt_z}
 use Rattle.integers.specs.Order.{Lt}
 use Rattle.integers.proofs.OrderLaws.{lt_yes, lt_no, yes_lt, no_lt, le_antisym}
-use Rattle.search.specs.declared.Ordering.TheVariants.{Less, Equal, Greater}
+use Rattle.std.specs.declared.cmp.Ordering.TheVariants.{Less, Equal, Greater}
 use Rattle.search.specs.Seek.{compareℤ}
 use Rattle.search.proofs.Total.{turn, Total}
 

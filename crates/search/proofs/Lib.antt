@@ -3,3 +3,4 @@ pub mod Complete
 pub mod Total
 pub mod Integers
 pub mod Live
+pub mod Inserted

@@ -4,8 +4,8 @@ use mathlib.Core.Path.{refl}
 use lib.Dec.{ltb}
 use Rattle.limits.specs.Metered.{pure}
 use Rattle.limits.proofs.Live.{Lives, live_pure, live_test, live_then, live_work}
-use Rattle.search.specs.declared.Ordering.{Ordering}
-use Rattle.search.specs.declared.Ordering.TheVariants.{Less, Equal, Greater}
+use Rattle.std.specs.declared.cmp.Ordering.{Ordering}
+use Rattle.std.specs.declared.cmp.Ordering.TheVariants.{Less, Equal, Greater}
 use Rattle.search.specs.Seek.{found, absent, by, middle, seek}
 
 pub seek_lives : (probe : ℕ → Ordering) (turns low high : ℕ) → Lives 0 (λ _. 0) (seek probe turns low high)

@@ -7,8 +7,8 @@ use lib.ListN.{length, get_or}
 use Rattle.integers.specs.Lists.{inserted}
 use Rattle.integers.proofs.ListLaws.{Compared, less, more, same, compared}
 use Rattle.integers.proofs.Insertion.{inserted_below, inserted_at, inserted_above}
-use Rattle.search.specs.declared.Ordering.{Ordering}
-use Rattle.search.specs.declared.Ordering.TheVariants.{Less, Equal, Greater}
+use Rattle.std.specs.declared.cmp.Ordering.{Ordering}
+use Rattle.std.specs.declared.cmp.Ordering.TheVariants.{Less, Equal, Greater}
 use Rattle.search.specs.Seek.{Place, found, absent}
 use Rattle.search.proofs.Complete.{Rising, Below, Above, Ends}
 

@@ -2,14 +2,14 @@
 use Prim.Native.Nat.{ℕ, zero, suc, ◌+◌, ◌≤◌, ◌<◌}
 use native.Mathlib.Omega.{arith}
 use mathlib.Core.Path.{◌≡◌, sym, ◌∙◌}
-use borrow.Author.Tests.{lt-ltb, le-ltb}
+use borrow.Author.Tests.{lt-ltb, le-ltb, eq-eqb, ne_eqb}
 use Rattle.integers.proofs.ListLaws.{Compared, less, more, same, compared}
 use Rattle.limits.specs.declared.Stop.{Stop}
 use Rattle.limits.specs.Metered.{Run, going, stopped, pure, after, ◌>>=◌, ◌>>◌}
 use Rattle.limits.specs.declared.Meter.{Meter}
 use Rattle.limits.specs.Meter.{work}
-use Rattle.search.specs.declared.Ordering.{Ordering}
-use Rattle.search.specs.declared.Ordering.TheVariants.{Less, Equal, Greater}
+use Rattle.std.specs.declared.cmp.Ordering.{Ordering}
+use Rattle.std.specs.declared.cmp.Ordering.TheVariants.{Less, Equal, Greater}
 use Rattle.search.specs.Seek.{Place, found, absent, middle, seek, compareℕ}
 
 -- the answer x is that of the search from here, with turns enough
@@ -48,10 +48,10 @@ pub is_less : (a b : ℕ) → a < b → compareℕ a b ≡ Less
 is_less a b h = rw (lt-ltb a b h)
 
 pub is_greater : (a b : ℕ) → b < a → compareℕ a b ≡ Greater
-is_greater a b h = rw (le-ltb a b (omega arith), lt-ltb b a h)
+is_greater a b h = rw (le-ltb a b (omega arith), ne_eqb a b (omega arith))
 
 pub is_equal : (a b : ℕ) → a ≤ b → b ≤ a → compareℕ a b ≡ Equal
-is_equal a b h k = rw (le-ltb a b k, le-ltb b a h)
+is_equal a b h k = let e : a ≡ b = omega arith in rw (le-ltb a b k, eq-eqb a b e)
 
 -- ---- and back
 

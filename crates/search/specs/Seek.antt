@@ -1,17 +1,17 @@
 -- The binary search of the Rust (thresholds, keys and lists are searched alike), over whatever `probe` says of each item.
-use Rattle.std.specs.Prelude.{ℕ, zero, suc, ◌+◌, ◌-◌, ◌/◌, Bool, true, false, cond, ltb, ℤ}
-use Rattle.std.specs.Int.Signed.{lt_z}
+use Rattle.std.specs.Prelude.{ℕ, zero, suc, ◌+◌, ◌-◌, ◌/◌, ◌<◌, ◌≡◌, Bool, true, false, cond, ltb, ℤ, Result}
+pub use Rattle.std.specs.Prelude.{Ok as found, Err as absent}
+pub use Rattle.std.specs.declared.cmp.Ordering.{Ordering}
+pub use Rattle.std.specs.declared.cmp.Ordering.TheVariants.{Less, Equal, Greater}
+use Rattle.std.specs.Ordering.{nat_cmp, int_cmp}
 use Rattle.limits.specs.declared.Stop.{Stop}
-use Rattle.limits.specs.Metered.{Metered, pure, ◌>>◌}
+use Rattle.limits.specs.Metered.{Metered, answered, pure, ◌>>◌}
 use Rattle.limits.specs.declared.Meter.{Meter}
 use Rattle.limits.specs.Meter.{work}
-use Rattle.search.specs.declared.Ordering.{Ordering}
-use Rattle.search.specs.declared.Ordering.TheVariants.{Less, Equal, Greater}
 
 -- where a search ends: at an equal item, or where one would stand
-pub data Place : Type 0 where
-  found : ℕ → Place
-  absent : ℕ → Place
+abbrev pub Place : Type 0
+Place = Result ℕ ℕ
 
 abbrev pub found? : Place → Bool
 found? (found i) = true
@@ -34,10 +34,19 @@ seek probe (suc turns) low high =
     by (probe (middle low high)) (seek probe turns (middle low high + 1) high) (pure (found (middle low high))) (seek probe turns low (middle low high)))
     (pure (absent low))
 
--- two natural numbers
+-- the comparisons of std: two natural numbers
 abbrev pub compareℕ : ℕ → ℕ → Ordering
-compareℕ a b = cond (ltb a b) Less (cond (ltb b a) Greater Equal)
+compareℕ = nat_cmp
 
 -- two integers
 abbrev pub compareℤ : ℤ → ℤ → Ordering
-compareℤ a b = cond (lt_z a b) Less (cond (lt_z b a) Greater Equal)
+compareℤ = int_cmp
+
+-- ---- the code's search: what its answer and the meter that it leaves are, for whatever its closure computes
+
+-- each answer of the closure to one of n items is what p gives
+pub record Computes (post : ℕ → Ordering → Type 0) (n : ℕ) (p : ℕ → Ordering) : Type 0 where
+  pub at : (i : ℕ) (r : Ordering) → i < n → post i r → r ≡ p i
+
+abbrev pub Seeks : (ℕ → Ordering) → ℕ → Result Place Stop → Meter → Meter → Type 0
+Seeks p n r old new = answered r new ≡ seek p n 0 n old

@@ -1,20 +1,44 @@
-//! Binary search over a table in order, one unit of work for each item that is looked at. The searches themselves stand with their tables.
+//! Binary search over a table in order, one unit of work for each item that is looked at.
 #![tactic(auto)]
 
-use limits::Stop;
+ghost use Rattle.std.specs.Prelude.{◌≡◌, ℕ, ◌<◌};
+ghost use Rattle.integers.specs.Lists.{inserted};
+ghost use Rattle.search.specs.Seek.{Computes, Seeks};
 
-// How an item stands to the one that is sought.
-#[derive(Clone, Copy)]
-pub enum Ordering {
-    Less,
-    Equal,
-    Greater,
+use limits::{Meter, Stop};
+use std::cmp::Ordering;
+
+// Among `count` items, where `probe` says how an item stands to the one that is sought: the place of an equal item, or where one would stand.
+pub fn seek<F: Fn(usize) -> Ordering>(
+    count: usize,
+    probe: F,
+    meter: &mut Meter,
+) -> Result<Result<usize, usize>, Stop>
+    requires { (i : ℕ) → i < count → F.pre probe i }
+    ensures { (p : ℕ → Ordering) → Computes (F.post probe) count p → Seeks p count result meter.old meter.new }
+{
+    let mut low = 0;
+    let mut high = count;
+    while low < high {
+        meter.work(1)?;
+        let middle = low + (high - low) / 2;
+        match probe(middle) {
+            Ordering::Less => low = middle + 1,
+            Ordering::Equal => return Ok(Ok(middle)),
+            Ordering::Greater => high = middle,
+        }
+    }
+    Ok(Err(low))
 }
 
-// The place of an equal item, or the place where one would stand, with the work after the search.
-#[derive(Clone, Copy)]
-pub enum Sought {
-    Found(usize, u64),
-    Absent(usize, u64),
-    Stopped(Stop, u64),
+// A value at its place; what stood from there up to `count` goes one place up. Nothing is written beyond the table.
+pub fn insert<T: Copy>(table: &mut [T], at: usize, count: usize, value: T)
+    ensures { table.new ≡ inserted table.old at count value }
+{
+    if table.len() <= at {
+        return;
+    }
+    let last = count.clamp(at, table.len() - 1);
+    table[at..last + 1].rotate_right(1);
+    table[at] = value;
 }

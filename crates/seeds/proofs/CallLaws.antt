@@ -17,8 +17,8 @@ use Rattle.limits.specs.Refusal.{Told, told}
 use Rattle.limits.specs.Metered.{Run, going, stopped, Metered, ◌>>◌, mapped, through}
 use Rattle.limits.specs.Budget.{work}
 use Rattle.limits.proofs.Monad.{then_stop, then_on}
-use Rattle.store.specs.declared.Context.{Context}
-use Rattle.store.specs.declared.Context.TheVariants.{None, Some}
+use Rattle.store.specs.Store.{Context}
+use Rattle.std.proofs.Common.{None, Some}
 use Rattle.store.specs.declared.Store.{Store}
 use Rattle.store.specs.declared.Done.{Done}
 use Rattle.store.specs.declared.Done.TheVariants.{Ok, Refused}

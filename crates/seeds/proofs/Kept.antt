@@ -33,8 +33,8 @@ use Rattle.lattice.proofs.Joins.{joined_list, joined_value, join_is}
 use Rattle.lattice.proofs.LiveLaws.{constant_lives, join_lives}
 use Rattle.rows.specs.Row.{row, entries_of, value_at, put}
 use Rattle.rows.proofs.RowLaws.{size_is, length_put, put_back, put_other}
-use Rattle.store.specs.declared.Context.{Context}
-use Rattle.store.specs.declared.Context.TheVariants.{None, Some}
+use Rattle.store.specs.Store.{Context}
+use Rattle.std.proofs.Common.{None, Some}
 use Rattle.store.specs.declared.Store.{Store}
 use Rattle.store.specs.Store.{with_budget, with_provenance}
 use Rattle.store.specs.Calls.{open?, charged}

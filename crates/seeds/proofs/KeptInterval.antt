@@ -25,7 +25,7 @@ use Rattle.interval.specs.declared.Interval.TheVariants.{Bounded}
 use Rattle.lattice.specs.Lattice.{numeric}
 use Rattle.lattice.proofs.Joins.{joined_value}
 use Rattle.rows.specs.Row.{row, value_at}
-use Rattle.store.specs.declared.Context.TheVariants.{None}
+use Rattle.std.proofs.Common.{None}
 use Rattle.store.specs.declared.Store.{Store}
 use Rattle.store.specs.Store.{with_budget}
 use Rattle.store.specs.Calls.{open?, charged, Marks, marks, entering}

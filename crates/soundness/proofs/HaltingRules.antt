@@ -25,8 +25,8 @@ use Rattle.interval.specs.declared.Bound.{Bound}
 use Rattle.interval.specs.declared.Constant.{Constant}
 use Rattle.interval.specs.declared.Constant.TheVariants.{Number, Name, Large}
 use Rattle.interval.specs.Bound.{bottom_of, same_bound, allows_of}
-use Rattle.search.specs.declared.Ordering.{Ordering}
-use Rattle.search.specs.declared.Ordering.TheVariants.{Less, Equal, Greater}
+use Rattle.std.specs.declared.cmp.Ordering.{Ordering}
+use Rattle.std.specs.declared.cmp.Ordering.TheVariants.{Less, Equal, Greater}
 use Rattle.search.specs.Seek.{Place, by, middle, seek}
 use Rattle.lists.specs.Lists.{union, push, retain_all, take_one, collect, permits_in, permits, same_ids}
 use Rattle.lattice.specs.declared.Reason.{Reason}

@@ -18,7 +18,7 @@ use Rattle.limits.proofs.Ends.{Ends, completes, stops, ends_as}
 use Rattle.rows.specs.Row.{row, entries_of, value_at}
 use Rattle.keys.specs.Key.{Key}
 use Rattle.thresholds.specs.Thresholds.{entry}
-use Rattle.store.specs.declared.Context.{Context}
+use Rattle.store.specs.Store.{Context}
 use Rattle.store.specs.declared.Phase.TheVariants.{Completed, Stopped}
 use Rattle.slots.specs.Slots.{total}
 use Rattle.seeds.proofs.Seeded.{entries_in}

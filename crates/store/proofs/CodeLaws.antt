@@ -16,9 +16,9 @@ use Rattle.limits.specs.declared.Billed.{Billed}
 use Rattle.limits.specs.declared.Billed.TheVariants.{Paid, Stopped}
 use Rattle.limits.specs.declared.Refusal.TheVariants.{Closed, Shape, Full, Limit, Missing}
 use Rattle.limits.specs.declared.Refusal.{Refusal}
-use Rattle.limits.specs.Refusal.{told}
+use Rattle.limits.specs.Refusal.{Told, told}
 use Rattle.limits.specs.Records.{fresh}
-use Rattle.limits.specs.Metered.{going, stopped, Metered, pure, after, ◌>>=◌, ◌>>◌, mapped, through}
+use Rattle.limits.specs.Metered.{Run, going, stopped, Metered, pure, after, ◌>>=◌, ◌>>◌, mapped, through}
 use Rattle.limits.specs.Budget.{ran, work, predicates, positions}
 use Rattle.limits.proofs.Monad.{then_on, then_stop, through_on, through_stop, came}
 use Rattle.thresholds.specs.Thresholds.{Entry, entry}
@@ -26,64 +26,55 @@ use Rattle.integers.proofs.Tests.{and_left, and_right}
 use Rattle.lattice.specs.Value.{Value}
 use Rattle.lattice.specs.Lattice.{bottom}
 use Rattle.rows.specs.Row.{row, put}
-use Rattle.store.specs.declared.Context.TheVariants.{Some}
+use Rattle.std.proofs.Common.{Some}
 use Rattle.store.specs.declared.Phase.TheVariants.{Open, Absent}
 use Rattle.store.specs.declared.Store.{Store}
 use Rattle.store.specs.declared.Done.{Done}
 use Rattle.store.specs.declared.Done.TheVariants.{Ok, Refused}
 use Rattle.store.specs.Store.{admits, with_budget, with_context, with_thresholds, with_predicate, empty, fresh_of}
-use Rattle.store.specs.Calls.{charged, marks, entering, declared, bottoms, room_for, tables, predicate_call, context_call, work_call, first_of, arity_of, argument_call}
+use Rattle.store.specs.Calls.{unless, charged, marks, entering, declared, bottoms, room_for, tables, predicate_call, context_call, work_call, first_of, arity_of, argument_call}
 use Rattle.store.specs.Answers.{done, on_marks}
 
--- ---- a fresh store
+-- ---- a test that refuses
 
-module _ (l : Limits) {b : Budget} (e : b ≡ fresh l) where
-  pub fresh_open : l.width ≤ 16 → going tt (with_budget b (empty l Open)) ≡ fresh_of l
-  fresh_open h = rw (e, le-leb l.width 16 h)
+module _ {S A : Type 0} (p : S → Bool) (r : Refusal) (m : Metered Told S A) (s : S) where
+  pub refused : p s ≡ false → stopped (told r) s ≡ unless p r m s
+  refused h = rw h
 
-  pub fresh_wide : 16 < l.width → stopped (told Shape) (with_budget b (empty l Absent)) ≡ fresh_of l
-  fresh_wide h = rw (e, lt-leb l.width 16 h)
+  pub passed : p s ≡ true → {y : Run Told S A} → y ≡ m s → y ≡ unless p r m s
+  passed h k = rw h k
 
 -- ---- what a call charges
 
-module _ (m : Metered Stop Budget (Unit {0})) (s : Store) {x : Billed} (h : ran x ≡ m s.budget) where
-  pub charge_paid : {b : Budget} {t : Store} → x ≡ Paid b → t ≡ with_budget b s → done (Ok t) ≡ charged m s
+module _ {A : Type 0} (m : Metered Stop Budget A) (s : Store) where
+  pub charge_on : {a : A} {b : Budget} → going a b ≡ m s.budget → going a (with_budget b s) ≡ charged m s
   unfolding through mapped
-  charge_paid p q = rw (q, ← h, p)
+  charge_on h = rw (← h)
 
-  pub charge_stopped : {e : Stop} {b : Budget} {t : Store} → x ≡ Stopped e b → t ≡ with_budget b s → done (Refused (Limit e) t) ≡ charged m s
+  pub charge_off : {e : Stop} {b : Budget} → stopped e b ≡ m s.budget → stopped (told (Limit e)) (with_budget b s) ≡ charged m s
   unfolding through mapped
-  charge_stopped p q = rw (q, ← h, p)
+  charge_off h = rw (← h)
 
-module _ (arity : ℕ) (b : Budget) {x : Billed} (h : ran x ≡ predicates 1 b) where
-  pub declare_first : {e : Stop} {k : Budget} → x ≡ Stopped e k → ran (Stopped e b) ≡ declared arity b
-  unfolding declared through mapped ◌>>◌ ◌>>=◌ after
-  declare_first p = rw (← h, p)
+-- all of a new predicate's charges, or none
+module _ (arity : ℕ) (b : Budget) where
+  pub declare_all : {t : Budget} → going tt t ≡ (predicates 1 >> positions arity >> work arity) b → going tt t ≡ declared arity b
+  unfolding declared
+  declare_all h = through_on _ _ _ _ (predicates 1 >> positions arity >> work arity) b h
 
-  module _ {b₁ : Budget} (p : x ≡ Paid b₁) {y : Billed} (i : ran y ≡ positions arity b₁) where
-    pub declare_second : {e : Stop} {k : Budget} → y ≡ Stopped e k → ran (Stopped e b) ≡ declared arity b
-    unfolding declared through mapped ◌>>◌ ◌>>=◌ after
-    declare_second q = rw (← h, p, ← i, q)
-
-    module _ {b₂ : Budget} (q : y ≡ Paid b₂) {z : Billed} (j : ran z ≡ work arity b₂) where
-      pub declare_third : {e : Stop} {k : Budget} → z ≡ Stopped e k → ran (Stopped e b) ≡ declared arity b
-      unfolding declared through mapped ◌>>◌ ◌>>=◌ after
-      declare_third r = rw (← h, p, ← i, q, ← j, r)
-
-      pub declare_all : {b₃ : Budget} → z ≡ Paid b₃ → ran (Paid b₃) ≡ declared arity b
-      unfolding declared through mapped ◌>>◌ ◌>>=◌ after
-      declare_all r = rw (← h, p, ← i, q, ← j, r)
+  pub declare_none : {e : Stop} {t : Budget} → stopped e t ≡ (predicates 1 >> positions arity >> work arity) b → stopped e b ≡ declared arity b
+  unfolding declared
+  declare_none h = through_stop _ _ _ _ (predicates 1 >> positions arity >> work arity) b h
 
 -- ---- thresholds in a call
 
-module _ (m : Metered Stop Entry (Unit {0})) (s : Store) (t : List ℤ) {t' : List ℤ} {b : Budget} {n : ℕ} {u w : Store} (q : u ≡ with_budget b s) (r : w ≡ with_thresholds n u) where
-  pub entering_done : going tt (entry b n t') ≡ m (entry s.budget s.counts.thresholds t) → on_marks (Ok w) t' ≡ entering m (marks s t)
+module _ (m : Metered Stop Entry (Unit {0})) (s : Store) (t : List ℤ) {t' : List ℤ} {b : Budget} {n : ℕ} where
+  pub entered_on : going tt (entry b n t') ≡ m (entry s.budget s.counts.thresholds t) → going tt (marks (with_thresholds n (with_budget b s)) t') ≡ entering m (marks s t)
   unfolding through mapped
-  entering_done h = rw (r, q, ← h)
+  entered_on h = rw (← h)
 
-  pub entering_stopped : {e : Stop} → stopped e (entry b n t') ≡ m (entry s.budget s.counts.thresholds t) → on_marks (Refused (Limit e) w) t' ≡ entering m (marks s t)
+  pub entered_off : {e : Stop} → stopped e (entry b n t') ≡ m (entry s.budget s.counts.thresholds t) → stopped (told (Limit e)) (marks (with_thresholds n (with_budget b s)) t') ≡ entering m (marks s t)
   unfolding through mapped
-  entering_stopped h = rw (r, q, ← h)
+  entered_off h = rw (← h)
 
 -- ---- seeds
 
@@ -95,71 +86,14 @@ pub bottoms_none : (seeds : List ℕ) (from : ℕ) → seeds ≡ bottoms seeds f
 unfolding bottoms
 bottoms_none seeds from = refl
 
--- ---- calls without tables
-
-module _ (s : Store) {t : Bool} (h : t ≡ admits s.phase) where
-  pub context_set : (c : ℕ) → t ≡ true → done (Ok (with_context (Some c) s)) ≡ context_call c s
-  unfolding context_call
-  context_set c p = rw (← h, p)
-
-  pub context_closed : (c : ℕ) → t ≡ false → done (Refused Closed s) ≡ context_call c s
-  unfolding context_call
-  context_closed c p = rw (← h, p)
-
-  pub work_charged : (n : ℕ) (r : Done) → t ≡ true → done r ≡ charged (work n) s → done r ≡ work_call n s
-  unfolding work_call
-  work_charged n r p k = rw (← h, p) k
-
-  pub work_closed : (n : ℕ) → t ≡ false → done (Refused Closed s) ≡ work_call n s
-  unfolding work_call
-  work_closed n p = rw (← h, p)
-
 -- ---- an argument
 
-module _ (p i : ℕ) (rows : List ℕ) (s : Store) where
-  pub argument_shape : (length rows ≡ 128 → ⊥) → stopped (told Shape) s ≡ argument_call p i rows s
-  unfolding argument_call
-  argument_shape n = rw (ne_eqb (length rows) 128 n)
-
-  module _ (n : length rows ≡ 128) {t : Bool} (h : t ≡ admits s.phase) where
-    pub argument_closed : t ≡ false → stopped (told Closed) s ≡ argument_call p i rows s
-    unfolding argument_call
-    argument_closed e = rw (eq-eqb (length rows) 128 n, ← h, e)
-
-    module _ (o : t ≡ true) where
-      pub argument_beyond : 64 ≤ p → stopped (told Missing) s ≡ argument_call p i rows s
-      unfolding argument_call
-      argument_beyond e = rw (eq-eqb (length rows) 128 n, ← h, o, le-ltb p 64 e)
-
-      module _ (e : p < 64) where
-        pub argument_missing : s.counts.predicates ≤ p → stopped (told Missing) s ≡ argument_call p i rows s
-        unfolding argument_call
-        argument_missing f = rw (eq-eqb (length rows) 128 n, ← h, o, lt-ltb p 64 e, le-ltb p s.counts.predicates f)
-
-        module _ (f : p < s.counts.predicates) {arity : ℕ} (a : arity ≡ arity_of rows p) where
-          pub argument_outside : arity ≤ i → stopped (told Missing) s ≡ argument_call p i rows s
-          unfolding argument_call
-          argument_outside g = rw (eq-eqb (length rows) 128 n, ← h, o, lt-ltb p 64 e, lt-ltb p s.counts.predicates f, ← a, le-ltb i arity g)
-
-          pub argument_id : {first : ℕ} → i < arity → first ≡ first_of rows p → going (first + i) s ≡ argument_call p i rows s
-          unfolding argument_call pure
-          argument_id g q = rw (eq-eqb (length rows) 128 n, ← h, o, lt-ltb p 64 e, lt-ltb p s.counts.predicates f, ← a, lt-ltb i arity g, q)
+module _ (p i : ℕ) (rows : List ℕ) (s : Store) (n : length rows ≡ 128) {t : Bool} (h : t ≡ admits s.phase) (o : t ≡ true) (e : p < 64) (f : p < s.counts.predicates) where
+  pub argument_id : {arity first : ℕ} → arity ≡ arity_of rows p → i < arity → first ≡ first_of rows p → going (first + i) s ≡ argument_call p i rows s
+  unfolding argument_call pure
+  argument_id {arity} a g q = rw (eq-eqb (length rows) 128 n, ← h, o, lt-ltb p 64 e, lt-ltb p s.counts.predicates f, ← a, lt-ltb i arity g, q)
 
 -- ---- room for a predicate
-
-module _ (p n arity : ℕ) where
-  pub room_rows : 64 ≤ p → false ≡ room_for p n arity
-  room_rows h = rw (le-ltb p 64 h)
-
-  pub room_over : p < 64 → 256 < n → false ≡ room_for p n arity
-  room_over h k = rw (lt-ltb p 64 h, lt-leb (n + arity) 256 (omega arith))
-
-  pub room_is : p < 64 → n ≤ 256 → leb arity (256 - n) ≡ room_for p n arity
-  room_is h k = rw (lt-ltb p 64 h) (go (leb arity (256 - n)) refl)
-    where
-      go : (t : Bool) → leb arity (256 - n) ≡ t → t ≡ leb (n + arity) 256
-      go true e = sym (le-leb (n + arity) 256 (omega (arith, leb-true arity (256 - n) e)))
-      go false e = sym (lt-leb (n + arity) 256 (omega (arith, leb-false arity (256 - n) e)))
 
 pub room_yes : (p n arity : ℕ) {t : Bool} → t ≡ room_for p n arity → t ≡ true → (p < 64) × (n + arity ≤ 256)
 room_yes p n arity q e =

@@ -11,7 +11,7 @@ use Rattle.limits.specs.Budget.{work, predicates, positions}
 use Rattle.thresholds.specs.Thresholds.{Entry, entry}
 use Rattle.lattice.specs.Lattice.{bottom}
 use Rattle.rows.specs.Row.{row, put}
-use Rattle.store.specs.declared.Context.TheVariants.{Some}
+use Rattle.std.specs.Prelude.{Some}
 use Rattle.store.specs.declared.Store.{Store}
 use Rattle.store.specs.Store.{admits, with_budget, with_context, with_predicate, with_thresholds}
 

@@ -1,17 +1,19 @@
 -- The header of a store: which calls a phase admits, and the header with one part changed. Headers are made in this file alone.
-use Rattle.std.specs.Prelude.{ℕ, ◌+◌, Bool, true, false, cond, leb}
+use Rattle.std.specs.Prelude.{ℕ, ◌+◌, Bool, true, false, cond, leb, Option, None}
 use Rattle.limits.specs.declared.Limits.{Limits}
 use Rattle.limits.specs.declared.Budget.{Budget}
 use Rattle.limits.specs.declared.Refusal.TheVariants.{Shape}
 use Rattle.limits.specs.Refusal.{Told, told}
 use Rattle.limits.specs.Records.{fresh}
 use Rattle.limits.specs.Metered.{Run, going, stopped}
-use Rattle.store.specs.declared.Context.{Context}
-use Rattle.store.specs.declared.Context.TheVariants.{None}
 use Rattle.store.specs.declared.Phase.{Phase}
 use Rattle.store.specs.declared.Phase.TheVariants.{Absent, Open, Completed, Stopped}
 use Rattle.store.specs.declared.Counts.{Counts}
 use Rattle.store.specs.declared.Store.{Store}
+
+-- the caller's context, if one is set
+abbrev pub Context : Type 0
+Context = Option ℕ
 
 -- 01, refusal 1: "A store call or run finds the store closed, or a reading finds it open". Store calls and the run want an open one.
 abbrev pub admits : Phase → Bool

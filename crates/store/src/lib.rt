@@ -1,36 +1,30 @@
-//! The store's header and its first calls (input.rs): a fresh store, `context`, `work`, `predicate` and `argument`. The header goes in by
-//! value and comes back beside the answer; tables are lent. Every call holds for any header and any contents.
+//! The store's header and its first calls (input.rs): a fresh store, `context`, `work`, `predicate` and `argument`. A call changes the
+//! header and the tables that it is lent in place, and a refused one leaves what it was charged. Every call holds for any header and any contents.
 #![tactic(auto)]
 
 ghost use Rattle.std.specs.Prelude.{◌≡◌, ◌+◌, ◌≤◌, length};
-ghost use Rattle.limits.specs.Budget.{ran, charge};
-ghost use Rattle.store.specs.Store.{fresh_of, admits, with_budget, with_counts, with_thresholds, with_predicate};
+ghost use Rattle.limits.specs.Budget.{charge};
+ghost use Rattle.limits.specs.Metered.{answered};
+ghost use Rattle.limits.specs.Refusal.{replied};
+ghost use Rattle.store.specs.Store.{fresh_of, admits, with_budget, with_counts, with_predicate};
 ghost use Rattle.store.specs.Calls.{charged, marks, entering, context_call, work_call, declared, bottoms, room_for, tables, predicate_call, argument_call};
-ghost use Rattle.store.specs.Answers.{done, answered, on_marks, on_tables};
+ghost use Rattle.store.specs.Answers.{done, on_marks};
 ghost use Rattle.thresholds.specs.Thresholds.{around};
 
 use lattice::Abstract;
-use limits::{Billed, Budget, Limits, Refusal, Resource, Stop};
-use thresholds::Entered;
-
-// The caller's context, if one is set.
-#[derive(Clone, Copy)]
-pub enum Context {
-    None,
-    Some(u32),
-}
+use limits::{Budget, Limits, Refusal, Resource, Stop};
 
 // Where a store stands. A stopped run keeps its Stop and the context in force there.
-#[derive(Clone, Copy)]
+#[derive(Clone, Copy, Debug, PartialEq, Eq)]
 pub enum Phase {
     Absent,
     Open,
     Completed,
-    Stopped(Stop, Context),
+    Stopped(Stop, Option<u32>),
 }
 
 // How many rows of each table stand.
-#[derive(Clone, Copy)]
+#[derive(Clone, Copy, Debug, PartialEq, Eq)]
 pub struct Counts {
     pub predicates: usize,
     pub positions: usize,
@@ -42,11 +36,12 @@ pub struct Counts {
     pub provenance: usize,
 }
 
-#[derive(Clone, Copy)]
+#[derive(Clone, Copy, Debug, PartialEq, Eq)]
 pub struct Store {
     pub budget: Budget,
     pub counts: Counts,
-    pub context: Context,
+    // The caller's context, if one is set.
+    pub context: Option<u32>,
     pub phase: Phase,
 }
 
@@ -70,32 +65,22 @@ pub const PREDICATES: usize = 64;
 pub const POSITIONS: usize = 256;
 
 // Whether the tables have room for one predicate more.
-fn room(predicates: usize, positions: usize, arity: u64) -> bool
+fn has_room(predicates: usize, positions: usize, arity: u64) -> bool
     ensures { result ≡ room_for predicates positions arity }
 {
-    if PREDICATES <= predicates {
-        return false;
-    }
-    if POSITIONS < positions {
-        return false;
-    }
-    arity <= (POSITIONS - positions) as u64
+    predicates < PREDICATES && positions <= POSITIONS && arity <= (POSITIONS - positions) as u64
 }
 
 // The charges of a new predicate beside its first unit of work: all of them or none.
-fn declare(budget: Budget, arity: u64) -> Billed
-    ensures { ran result ≡ declared arity budget }
+fn declare(budget: &mut Budget, arity: u64) -> Result<(), Stop>
+    ensures { answered result budget.new ≡ declared arity budget.old }
 {
-    match budget.charge(Resource::Predicates, 1) {
-        Billed::Stopped(stop, _) => Billed::Stopped(stop, budget),
-        Billed::Paid(one) => match one.charge(Resource::Positions, arity) {
-            Billed::Stopped(stop, _) => Billed::Stopped(stop, budget),
-            Billed::Paid(two) => match two.charge(Resource::Work, arity) {
-                Billed::Stopped(stop, _) => Billed::Stopped(stop, budget),
-                Billed::Paid(three) => Billed::Paid(three),
-            },
-        },
-    }
+    let mut paid = *budget;
+    paid.pay(Resource::Predicates, 1)?;
+    paid.pay(Resource::Positions, arity)?;
+    paid.pay(Resource::Work, arity)?;
+    *budget = paid;
+    Ok(())
 }
 
 // Rows of seeds that nothing is seeded to.
@@ -103,10 +88,8 @@ fn clear_seeds(seeds: &mut [u32], from: usize, count: usize)
     requires { from + count ≤ 256 }
     ensures { seeds.new ≡ bottoms seeds.old from count }
 {
-    let mut j: usize = 0;
-    while j < count {
+    for j in 0..count {
         rows::put_abstract(seeds, from + j, Abstract::bottom());
-        j = j + 1;
     }
 }
 
@@ -115,116 +98,159 @@ impl Phase {
     pub fn admits(self) -> bool
         ensures { result ≡ admits self }
     {
-        match self {
-            Phase::Absent => false,
-            Phase::Open => true,
-            Phase::Completed => false,
-            Phase::Stopped(_, _) => false,
-        }
+        matches!(self, Phase::Open)
     }
 }
 
 // A store with nothing in it. A width over 16 is refused, and then there is no store.
-pub fn fresh(limits: Limits) -> Done
-    ensures { done result ≡ fresh_of limits }
+pub fn fresh(limits: Limits) -> (Store, Result<(), Refusal>)
+    ensures { replied result.1 result.0 ≡ fresh_of limits }
 {
-    let budget = Budget::new(limits);
-    let counts = Counts {
-        predicates: 0,
-        positions: 0,
-        constants: 0,
-        keys: 0,
-        expressions: 0,
-        rules: 0,
-        thresholds: 0,
-        provenance: 0,
+    let mut store = Store {
+        budget: Budget::new(limits),
+        counts: Counts {
+            predicates: 0,
+            positions: 0,
+            constants: 0,
+            keys: 0,
+            expressions: 0,
+            rules: 0,
+            thresholds: 0,
+            provenance: 0,
+        },
+        context: None,
+        phase: Phase::Open,
     };
     if 16 < limits.width {
-        let store = Store {
-            budget,
-            counts,
-            context: Context::None,
-            phase: Phase::Absent,
-        };
-        return Done::Refused(Refusal::Shape, store);
+        store.phase = Phase::Absent;
+        return (store, Err(Refusal::Shape));
     }
-    Done::Ok(Store {
-        budget,
-        counts,
-        context: Context::None,
-        phase: Phase::Open,
-    })
+    (store, Ok(()))
 }
 
 impl Store {
     // The context of all later calls.
-    pub fn context(self, context: u32) -> Done
-        ensures { done result ≡ context_call context self }
+    #[tactic(auto, unfolding(crate::specs::Calls::context_call))]
+    pub fn context(&mut self, context: u32) -> Result<(), Refusal>
+        ensures { replied result self.new ≡ context_call context self.old }
     {
-        let phase = self.phase;
-        if phase.admits() {
-            let budget = self.budget;
-            let counts = self.counts;
-            return Done::Ok(Store {
-                budget,
-                counts,
-                context: Context::Some(context),
-                phase,
-            });
+        if !self.phase.admits() {
+            return Err(Refusal::Closed);
         }
-        Done::Refused(Refusal::Closed, self)
+        self.context = Some(context);
+        Ok(())
+    }
+
+    // One charge of a call.
+    pub fn pay(&mut self, resource: Resource, amount: u64) -> Result<(), Refusal>
+        ensures { replied result self.new ≡ charged (charge resource amount) self.old }
+    {
+        self.budget.pay(resource, amount)?;
+        Ok(())
+    }
+
+    // A number and its neighbours become thresholds; the call has tested that there is room for three more.
+    pub fn enter(&mut self, value: i32, table: &mut [i32]) -> Result<(), Refusal>
+        requires { self.old.counts.thresholds + 3 ≤ length table.old }
+        ensures { replied result (marks self.new table.new) ≡ entering (around value) (marks self.old table.old) }
+    {
+        thresholds::enter_around(table, &mut self.counts.thresholds, value, &mut self.budget)?;
+        Ok(())
+    }
+
+    // The caller's own work.
+    #[tactic(auto, unfolding(crate::specs::Calls::work_call))]
+    pub fn work(&mut self, amount: u64) -> Result<(), Refusal>
+        ensures { replied result self.new ≡ work_call amount self.old }
+    {
+        if !self.phase.admits() {
+            return Err(Refusal::Closed);
+        }
+        self.pay(Resource::Work, amount)
+    }
+
+    // The id of an argument.
+    #[tactic(auto, unfolding(crate::specs::Calls::argument_call))]
+    pub fn argument(
+        &self,
+        predicate: u64,
+        position: u64,
+        predicates: &[u32],
+    ) -> Result<usize, Refusal>
+        ensures { replied result self.now ≡ argument_call predicate position predicates.now self.now }
+    {
+        if predicates.len() != 2 * PREDICATES {
+            return Err(Refusal::Shape);
+        }
+        if !self.phase.admits() {
+            return Err(Refusal::Closed);
+        }
+        if PREDICATES as u64 <= predicate || self.counts.predicates as u64 <= predicate {
+            return Err(Refusal::Missing);
+        }
+        let row = 2 * (predicate as usize);
+        let start = cells::cell_at(predicates, row) as u64;
+        let arity = cells::cell_at(predicates, row + 1) as u64;
+        if arity <= position {
+            return Err(Refusal::Missing);
+        }
+        Ok((start + position) as usize)
+    }
+
+    // A new predicate: its id.
+    #[tactic(auto, unfolding(crate::specs::Calls::predicate_call))]
+    pub fn predicate(
+        &mut self,
+        arity: u64,
+        predicates: &mut [u32],
+        seeds: &mut [u32],
+    ) -> Result<usize, Refusal>
+        ensures { replied result (tables self.new predicates.new seeds.new) ≡ predicate_call arity (tables self.old predicates.old seeds.old) }
+    {
+        let id = self.counts.predicates;
+        let start = self.counts.positions;
+        if predicates.len() != 2 * PREDICATES || seeds.len() != rows::ROW * POSITIONS {
+            return Err(Refusal::Shape);
+        }
+        if !self.phase.admits() {
+            return Err(Refusal::Closed);
+        }
+        if !has_room(id, start, arity) {
+            return Err(Refusal::Full);
+        }
+        self.pay(Resource::Work, 1)?;
+        declare(&mut self.budget, arity)?;
+        cells::put_cell(predicates, 2 * id, start as u32);
+        cells::put_cell(predicates, 2 * id + 1, arity as u32);
+        clear_seeds(seeds, start, arity as usize);
+        self.counts.predicates += 1;
+        self.counts.positions += arity as usize;
+        Ok(id)
     }
 
     // The same header with another budget.
     pub fn with_budget(self, budget: Budget) -> Store
         ensures { result ≡ with_budget budget self }
     {
-        let counts = self.counts;
-        let context = self.context;
-        let phase = self.phase;
-        Store {
-            budget,
-            counts,
-            context,
-            phase,
-        }
+        Store { budget, ..self }
     }
 
     // The same header with other counts of rows.
     pub fn with_counts(self, counts: Counts) -> Store
         ensures { result ≡ with_counts counts self }
     {
-        let budget = self.budget;
-        let context = self.context;
-        let phase = self.phase;
-        Store {
-            budget,
-            counts,
-            context,
-            phase,
-        }
+        Store { counts, ..self }
     }
 
     // One charge of a call.
     pub fn charge(self, resource: Resource, amount: u64) -> Done
         ensures { done result ≡ charged (charge resource amount) self }
     {
-        let budget = self.budget;
-        match budget.charge(resource, amount) {
-            Billed::Paid(paid) => Done::Ok(self.with_budget(paid)),
-            Billed::Stopped(stop, kept) => {
-                Done::Refused(Refusal::Limit(stop), self.with_budget(kept))
-            }
+        let mut store = self;
+        match store.pay(resource, amount) {
+            Ok(()) => Done::Ok(store),
+            Err(refusal) => Done::Refused(refusal, store),
         }
-    }
-
-    // The same header with this many thresholds.
-    fn with_thresholds(self, count: usize) -> Store
-        ensures { result ≡ with_thresholds count self }
-    {
-        let mut counts = self.counts;
-        counts.thresholds = count;
-        self.with_counts(counts)
     }
 
     // A number and its neighbours become thresholds; the call has tested that there is room for three more.
@@ -232,121 +258,10 @@ impl Store {
         requires { self.counts.thresholds + 3 ≤ length table.old }
         ensures { on_marks result table.new ≡ entering (around value) (marks self table.old) }
     {
-        let budget = self.budget;
-        let counts = self.counts;
-        match thresholds::enter_around(table, counts.thresholds, value, budget) {
-            Entered::Done(paid, count) => {
-                let store = self.with_budget(paid);
-                Done::Ok(store.with_thresholds(count))
-            }
-            Entered::Stopped(stop, kept, count) => {
-                let store = self.with_budget(kept);
-                Done::Refused(Refusal::Limit(stop), store.with_thresholds(count))
-            }
-        }
-    }
-
-    // The caller's own work.
-    pub fn work(self, amount: u64) -> Done
-        ensures { done result ≡ work_call amount self }
-    {
-        let phase = self.phase;
-        if phase.admits() {
-            return self.charge(Resource::Work, amount);
-        }
-        Done::Refused(Refusal::Closed, self)
-    }
-
-    // The id of an argument.
-    pub fn argument(self, predicate: u64, position: u64, predicates: &[u32]) -> Answer
-        ensures { answered result ≡ argument_call predicate position predicates.now self }
-    {
-        let phase = self.phase;
-        let counts = self.counts;
-        if predicates.len() != 2 * PREDICATES {
-            return Answer::Refused(Refusal::Shape, self);
-        }
-        if !phase.admits() {
-            return Answer::Refused(Refusal::Closed, self);
-        }
-        if PREDICATES <= predicate as usize {
-            return Answer::Refused(Refusal::Missing, self);
-        }
-        if counts.predicates <= predicate as usize {
-            return Answer::Refused(Refusal::Missing, self);
-        }
-        let row = 2 * (predicate as usize);
-        let start = cells::cell_at(predicates, row) as u64;
-        let arity = cells::cell_at(predicates, row + 1) as u64;
-        if arity <= position {
-            return Answer::Refused(Refusal::Missing, self);
-        }
-        Answer::Id((start + position) as usize, self)
-    }
-
-    // The charges of a new predicate beside its first unit of work.
-    fn declare(self, arity: u64) -> Done
-        ensures { done result ≡ charged (declared arity) self }
-    {
-        let budget = self.budget;
-        match declare(budget, arity) {
-            Billed::Paid(paid) => Done::Ok(self.with_budget(paid)),
-            Billed::Stopped(stop, kept) => {
-                Done::Refused(Refusal::Limit(stop), self.with_budget(kept))
-            }
-        }
-    }
-
-    // One predicate more, of this arity.
-    fn with_predicate(self, arity: usize) -> Store
-        requires { (self.counts.predicates ≤ 64) × (self.counts.positions + arity ≤ 256) }
-        ensures { result ≡ with_predicate arity self }
-    {
-        let budget = self.budget;
-        let mut counts = self.counts;
-        let context = self.context;
-        let phase = self.phase;
-        counts.predicates = counts.predicates + 1;
-        counts.positions = counts.positions + arity;
-        Store {
-            budget,
-            counts,
-            context,
-            phase,
-        }
-    }
-
-    // A new predicate: its id.
-    pub fn predicate(self, arity: u64, predicates: &mut [u32], seeds: &mut [u32]) -> Answer
-        ensures { on_tables result predicates.new seeds.new ≡ predicate_call arity (tables self predicates.old seeds.old) }
-    {
-        let phase = self.phase;
-        let counts = self.counts;
-        let id = counts.predicates;
-        let start = counts.positions;
-        if predicates.len() != 2 * PREDICATES {
-            return Answer::Refused(Refusal::Shape, self);
-        }
-        if seeds.len() != rows::ROW * POSITIONS {
-            return Answer::Refused(Refusal::Shape, self);
-        }
-        if !phase.admits() {
-            return Answer::Refused(Refusal::Closed, self);
-        }
-        if !room(id, start, arity) {
-            return Answer::Refused(Refusal::Full, self);
-        }
-        match self.charge(Resource::Work, 1) {
-            Done::Refused(refusal, kept) => Answer::Refused(refusal, kept),
-            Done::Ok(paid) => match paid.declare(arity) {
-                Done::Refused(refusal, kept) => Answer::Refused(refusal, kept),
-                Done::Ok(declared) => {
-                    cells::put_cell(predicates, 2 * id, start as u32);
-                    cells::put_cell(predicates, 2 * id + 1, arity as u32);
-                    clear_seeds(seeds, start, arity as usize);
-                    Answer::Id(id, declared.with_predicate(arity as usize))
-                }
-            },
+        let mut store = self;
+        match store.enter(value, table) {
+            Ok(()) => Done::Ok(store),
+            Err(refusal) => Done::Refused(refusal, store),
         }
     }
 }

@@ -19,7 +19,7 @@ use Rattle.limits.specs.declared.Meter.{Meter}
 use Rattle.limits.specs.Meter.{meter_of, with_meter}
 use Rattle.limits.proofs.Monad.{Holds, for_all}
 use Rattle.limits.proofs.Live.{LiveIn}
-use Rattle.search.specs.declared.Ordering.{Ordering}
+use Rattle.std.specs.declared.cmp.Ordering.{Ordering}
 use Rattle.search.proofs.Live.{seek_lives}
 use Rattle.search.specs.Seek.{Place, found, absent, seek}
 use Rattle.search.proofs.Complete.{Rising, Ends, Within, search_ends, seek_within}

@@ -2,14 +2,84 @@
 #![tactic(auto)]
 
 ghost use Rattle.std.specs.Prelude.{◌≡◌, ◌+◌, ◌≤◌, ◌<◌, length};
-ghost use Rattle.limits.specs.Budget.{ran};
-ghost use Rattle.integers.specs.Lists.{inserted};
-ghost use Rattle.search.specs.Answers.{Seeks};
-ghost use Rattle.thresholds.specs.Thresholds.{entry, seek_number, cost, enter, enter_number, around};
+ghost use Rattle.limits.specs.Metered.{answered};
+ghost use Rattle.thresholds.specs.Thresholds.{entry, seek_number, cost, enter, enter_some, around};
 ghost use Rattle.thresholds.specs.Answers.{entered};
 
-use limits::{Billed, Budget, Charged, Resource, Stop};
-use search::Sought;
+use limits::{Budget, Meter, Resource, Stop};
+
+// Among the first `count` cells.
+fn seek_number(
+    table: &[i32],
+    count: usize,
+    value: i32,
+    meter: &mut Meter,
+) -> Result<Result<usize, usize>, Stop>
+    requires { count ≤ length table.now }
+    ensures { answered result meter.new ≡ seek_number table.now count value meter.old }
+{
+    search::seek(count, |i| table[i].cmp(&value), meter)
+}
+
+// What a new threshold costs: the cells that move and its own, and a link.
+fn pay(budget: &mut Budget, cells: u64) -> Result<(), Stop>
+    ensures { answered result budget.new ≡ cost cells budget.old }
+{
+    budget.pay(Resource::Work, cells)?;
+    budget.pay(Resource::Links, 1)
+}
+
+// `threshold`: the value stands in the table once, in its place.
+pub fn enter(
+    table: &mut [i32],
+    count: &mut usize,
+    value: i32,
+    budget: &mut Budget,
+) -> Result<(), Stop>
+    requires { count.old < length table.old }
+    ensures { answered result (entry budget.new count.new table.new) ≡ enter value (entry budget.old count.old table.old) }
+{
+    let mut meter = budget.meter();
+    let sought = seek_number(table, *count, value, &mut meter);
+    budget.settle(meter);
+    if let Err(place) = sought? {
+        pay(budget, (*count - place + 1) as u64)?;
+        search::insert(table, place, *count, value);
+        *count += 1;
+    }
+    Ok(())
+}
+
+// A number, if there is one.
+fn enter_some(
+    table: &mut [i32],
+    count: &mut usize,
+    value: Option<i32>,
+    budget: &mut Budget,
+) -> Result<(), Stop>
+    requires { count.old < length table.old }
+    ensures { answered result (entry budget.new count.new table.new) ≡ enter_some value (entry budget.old count.old table.old) }
+{
+    match value {
+        Some(value) => enter(table, count, value, budget),
+        None => Ok(()),
+    }
+}
+
+// `thresholds`: the value and its neighbours. One that needs more than 32 bits is passed over.
+pub fn enter_around(
+    table: &mut [i32],
+    count: &mut usize,
+    value: i32,
+    budget: &mut Budget,
+) -> Result<(), Stop>
+    requires { count.old + 3 ≤ length table.old }
+    ensures { answered result (entry budget.new count.new table.new) ≡ around value (entry budget.old count.old table.old) }
+{
+    enter_some(table, count, value.checked_sub(1), budget)?;
+    enter(table, count, value, budget)?;
+    enter_some(table, count, value.checked_add(1), budget)
+}
 
 // What is left: the budget, and how many thresholds stand.
 #[derive(Clone, Copy)]
@@ -18,116 +88,15 @@ pub enum Entered {
     Stopped(Stop, Budget, usize),
 }
 
-// Binary search among the first `count` cells.
-fn seek_number(table: &[i32], count: usize, value: i32, work: u64, max_work: u64) -> Sought
-    requires { count ≤ length table.now }
-    ensures { Seeks (seek_number table.now count value) work max_work result }
-{
-    let mut low: usize = 0;
-    let mut high = count;
-    let mut spent = work;
-    while low < high {
-        match limits::charge(Resource::Work, spent, 1, max_work) {
-            Charged::Stopped(stop, now) => {
-                return Sought::Stopped(stop, now);
-            }
-            Charged::Paid(now) => {
-                spent = now;
-            }
-        }
-        let middle = low + (high - low) / 2;
-        let x = table[middle];
-        if x < value {
-            low = middle + 1;
-        } else {
-            if x == value {
-                return Sought::Found(middle, spent);
-            }
-            high = middle;
-        }
-    }
-    Sought::Absent(low, spent)
-}
-
-// The cells from `at` up to `count` go one place up, and the value stands at `at`.
-fn insert_number(table: &mut [i32], at: usize, count: usize, value: i32)
-    requires { (at ≤ count) × (count < length table.old) }
-    ensures { table.new ≡ inserted table.old at count value }
-{
-    let mut i = at;
-    let mut carry = value;
-    while i < count {
-        let x = table[i];
-        table[i] = carry;
-        carry = x;
-        i += 1;
-    }
-    table[i] = carry;
-}
-
-// What a new threshold costs: the cells that move and its own, and a link.
-fn pay(budget: Budget, cells: u64) -> Billed
-    ensures { ran result ≡ cost cells budget }
-{
-    match budget.charge(Resource::Work, cells) {
-        Billed::Stopped(stop, b) => Billed::Stopped(stop, b),
-        Billed::Paid(b) => b.charge(Resource::Links, 1),
-    }
-}
-
-// `threshold`: the value stands in the table once, in its place.
-pub fn enter(table: &mut [i32], count: usize, value: i32, budget: Budget) -> Entered
+// `enter` over counts by value, for the crates above that hand them through.
+pub fn enter_counted(table: &mut [i32], count: usize, value: i32, budget: Budget) -> Entered
     requires { count < length table.old }
     ensures { entered result table.new ≡ enter value (entry budget count table.old) }
 {
-    let limits = budget.limits;
-    let statistics = budget.statistics;
-    match seek_number(table, count, value, statistics.work, limits.work) {
-        Sought::Found(_, work) => Entered::Done(budget.with(Resource::Work, work), count),
-        Sought::Stopped(stop, work) => Entered::Stopped(
-            stop,
-            budget.with(Resource::Work, work),
-            count,
-        ),
-        Sought::Absent(low, work) => {
-            let more = count + 1;
-            let cells = (count - low + 1) as u64;
-            match pay(budget.with(Resource::Work, work), cells) {
-                Billed::Stopped(stop, b) => Entered::Stopped(stop, b, count),
-                Billed::Paid(b) => {
-                    insert_number(table, low, count, value);
-                    Entered::Done(b, more)
-                }
-            }
-        }
-    }
-}
-
-// A number that needs more than 32 bits is passed over.
-fn enter_number(table: &mut [i32], count: usize, value: i64, budget: Budget) -> Entered
-    requires { count < length table.old }
-    ensures { entered result table.new ≡ enter_number value (entry budget count table.old) }
-{
-    if value < -2147483648 {
-        return Entered::Done(budget, count);
-    }
-    if 2147483647 < value {
-        return Entered::Done(budget, count);
-    }
-    enter(table, count, value as i32, budget)
-}
-
-// `thresholds`: the value and its neighbours.
-pub fn enter_around(table: &mut [i32], count: usize, value: i32, budget: Budget) -> Entered
-    requires { count + 3 ≤ length table.old }
-    ensures { entered result table.new ≡ around value (entry budget count table.old) }
-{
-    let wide = value as i64;
-    match enter_number(table, count, wide - 1, budget) {
-        Entered::Stopped(stop, b, n) => Entered::Stopped(stop, b, n),
-        Entered::Done(b, n) => match enter(table, n, value, b) {
-            Entered::Stopped(stop, c, m) => Entered::Stopped(stop, c, m),
-            Entered::Done(c, m) => enter_number(table, m, wide + 1, c),
-        },
+    let mut n = count;
+    let mut left = budget;
+    match enter(table, &mut n, value, &mut left) {
+        Ok(()) => Entered::Done(left, n),
+        Err(stop) => Entered::Stopped(stop, left, n),
     }
 }

@@ -1,26 +1,27 @@
 -- `provenance::provenance` meets its contract.
 use native.Mathlib.Omega.{arith}
-use mathlib.Core.Path.{sym, ap, ◌∙◌}
+use mathlib.Core.Path.{◌≡◌, ap}
 use Rattle.limits.specs.Budget.{links}
-use Rattle.store.specs.Answers.{done}
+use Rattle.limits.proofs.Answering.{replied_ok, replied_err, refuses}
 use Rattle.store.proofs.CodeLaws.{charged_counts}
-use Rattle.provenance.proofs.CodeLaws.{room_for, provenance_missing, provenance_none, provenance_unpaid, provenance_new}
+use Rattle.provenance.proofs.CodeLaws.{room_for, provenance_none, provenance_unpaid, provenance_new}
 use Rattle.provenance.proofs.provenance.Goals as goal
 
-pub returns-then-counts-argument : goal.returns-then-counts-argument
-returns-then-counts-argument c = provenance_missing c.args.argument c.args.store c.args.table.now c.if-counts-argument.true
+pub returns-in_err-pay : goal.returns-in_err-pay
+returns-in_err-pay c = refuses _ _ c.from_residual.ensures.1 (provenance_unpaid c.args.argument c.args.store.now c.args.table.now c.if-store-argument.false c.in-Some.is _ (replied_err c.pay.ensures c.in_err-pay.was))
+
+pub returns : goal.returns
+returns c = provenance_new c.args.argument c.args.store.now c.args.table.now c.if-store-argument.false c.in-Some.is (replied_ok c.pay.ensures c.in_ok-pay.was) c.put_record.ensures
+
+pub returns-in_default : goal.returns-in_default
+returns-in_default c = provenance_none c.args.argument c.args.store.now c.args.table.now c.if-store-argument.false c.in_default.is
 
 pub put_record-requires : goal.put_record-requires
-put_record-requires c = omega (arith, room_for 1 c.args.store.counts.provenance c.in-Some.is c.requires.1)
+put_record-requires c =
+    let k : c.pay.new.self.counts ≡ c.args.store.now.counts = charged_counts (links 1) c.args.store.now (replied_ok c.pay.ensures c.in_ok-pay.was) in
+    rw k (omega (arith, room_for 1 c.args.store.now.counts.provenance c.in-Some.is c.requires.1))
 
-pub with_record-requires : goal.with_record-requires
-with_record-requires c = rw (ap (λ n. n.provenance) (charged_counts (links 1) c.args.store (sym (ap done c.in-Ok.is) ∙ c.charge.ensures))) (omega (arith, room_for 1 c.args.store.counts.provenance c.in-Some.is c.requires.1))
-
-pub returns-in-None : goal.returns-in-None
-returns-in-None c = provenance_none c.args.argument c.args.store c.args.table.now (omega (arith, c.if-counts-argument.false)) c.in-None.is
-
-pub returns-in-Refused : goal.returns-in-Refused
-returns-in-Refused c = provenance_unpaid c.args.argument c.args.store c.args.table.now (omega (arith, c.if-counts-argument.false)) c.in-Some.is c.charge.ensures c.in-Refused.is
-
-pub returns-in-Ok : goal.returns-in-Ok
-returns-in-Ok c = provenance_new c.args.argument c.args.store c.args.table.now (omega (arith, c.if-counts-argument.false)) c.in-Some.is c.charge.ensures c.in-Ok.is c.with_record.ensures c.put_record.ensures
+pub overflow_add-store : goal.overflow_add-store
+overflow_add-store c =
+    let k : c.pay.new.self.counts ≡ c.args.store.now.counts = charged_counts (links 1) c.args.store.now (replied_ok c.pay.ensures c.in_ok-pay.was) in
+    rw k (omega (arith, room_for 1 c.args.store.now.counts.provenance c.in-Some.is c.requires.1))

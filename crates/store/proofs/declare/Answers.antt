@@ -1,15 +1,17 @@
 -- `store::declare` meets its contract.
-use Rattle.store.proofs.CodeLaws.{declare_first, declare_second, declare_third, declare_all}
+use Rattle.limits.proofs.Monad.{then_on, then_stop}
+use Rattle.limits.proofs.Answering.{went, broke, exits}
+use Rattle.store.proofs.CodeLaws.{declare_all, declare_none}
 use Rattle.store.proofs.declare.Goals as goal
 
-pub returns-in-Stopped : goal.returns-in-Stopped
-returns-in-Stopped c = declare_first c.args.arity c.args.budget c.charge.ensures c.in-Stopped.is
+pub returns-in_err-pay : goal.returns-in_err-pay
+returns-in_err-pay c = exits _ c.from_residual.ensures.1 (declare_none _ _ (then_stop _ _ _ (broke c.pay.ensures c.in_err-pay.was)))
 
-pub returns-in-Stopped-charge : goal.returns-in-Stopped-charge
-returns-in-Stopped-charge c = declare_second c.args.arity c.args.budget c.charge.ensures c.in-Paid.is c.charge-in-Paid.ensures c.in-Stopped-charge.is
+pub returns-in_err-pay-2 : goal.returns-in_err-pay-2
+returns-in_err-pay-2 c = exits _ c.from_residual-in_err-pay-2.ensures.1 (declare_none _ _ (then_on _ _ _ (went c.pay.ensures c.in_ok-pay.was) (then_stop _ _ _ (broke c.pay-2.ensures c.in_err-pay-2.was))))
 
-pub returns-in-Stopped-charge-2 : goal.returns-in-Stopped-charge-2
-returns-in-Stopped-charge-2 c = declare_third c.args.arity c.args.budget c.charge.ensures c.in-Paid.is c.charge-in-Paid.ensures c.in-Paid-charge.is c.charge-in-Paid-charge.ensures c.in-Stopped-charge-2.is
+pub returns-in_err-pay-3 : goal.returns-in_err-pay-3
+returns-in_err-pay-3 c = exits _ c.from_residual-in_err-pay-3.ensures.1 (declare_none _ _ (then_on _ _ _ (went c.pay.ensures c.in_ok-pay.was) (then_on _ _ _ (went c.pay-2.ensures c.in_ok-pay-2.was) (broke c.pay-3.ensures c.in_err-pay-3.was))))
 
-pub returns-in-Paid-charge-2 : goal.returns-in-Paid-charge-2
-returns-in-Paid-charge-2 c = declare_all c.args.arity c.args.budget c.charge.ensures c.in-Paid.is c.charge-in-Paid.ensures c.in-Paid-charge.is c.charge-in-Paid-charge.ensures c.in-Paid-charge-2.is
+pub returns : goal.returns
+returns c = declare_all _ _ (then_on _ _ _ (went c.pay.ensures c.in_ok-pay.was) (then_on _ _ _ (went c.pay-2.ensures c.in_ok-pay-2.was) (went c.pay-3.ensures c.in_ok-pay-3.was)))

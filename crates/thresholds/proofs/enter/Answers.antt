@@ -1,28 +1,22 @@
 -- `thresholds::enter` meets its contract.
 use mir.Facts.{to_z-of_z}
+use Rattle.limits.proofs.Answering.{exits}
 use Rattle.thresholds.proofs.CodeLaws.{place_within, enter_found, enter_halted, enter_unpaid, enter_new}
 use Rattle.thresholds.proofs.enter.Goals as goal
 
-pub overflow_sub-cells : goal.overflow_sub-cells
-overflow_sub-cells c =
-    place_within c.args.value c.args.budget c.args.count c.args.table.now (rw (to_z-of_z c.ranges.value) at c.seek_number.ensures) c.in-Absent.is
+pub returns-in_err-place : goal.returns-in_err-place
+returns-in_err-place c = exits _ c.from_residual.ensures.1 (enter_halted _ _ _ _ _ (rw (to_z-of_z c.ranges.value, c.meter-meter.ensures) at c.seek_number-sought.ensures) c.settle.ensures c.in_err-place.was)
 
-pub insert_number-requires : goal.insert_number-requires
-insert_number-requires c =
-    (place_within c.args.value c.args.budget c.args.count c.args.table.now (rw (to_z-of_z c.ranges.value) at c.seek_number.ensures) c.in-Absent.is, c.requires)
+pub overflow_sub-count : goal.overflow_sub-count
+overflow_sub-count c = place_within _ _ _ _ _ (rw (to_z-of_z c.ranges.value, c.meter-meter.ensures) at c.seek_number-sought.ensures) c.settle.ensures c.in_ok-place.was c.in-Err.is
 
-pub returns-in-Found : goal.returns-in-Found
-returns-in-Found c =
-    enter_found c.args.value c.args.budget c.args.count c.args.table.now (rw (to_z-of_z c.ranges.value) at c.seek_number.ensures) c.in-Found.is c.with.ensures
+pub returns-in_err-pay : goal.returns-in_err-pay
+returns-in_err-pay c =
+    exits _ c.from_residual-in_err-pay.ensures.1 (enter_unpaid _ _ _ _ _ (rw (to_z-of_z c.ranges.value, c.meter-meter.ensures) at c.seek_number-sought.ensures) c.settle.ensures c.in_ok-place.was c.in-Err.is c.in_err-pay.ensures)
 
-pub returns-in-Stopped : goal.returns-in-Stopped
-returns-in-Stopped c =
-    enter_halted c.args.value c.args.budget c.args.count c.args.table.now (rw (to_z-of_z c.ranges.value) at c.seek_number.ensures) c.in-Stopped.is c.with-in-Stopped.ensures
+pub returns-in_ok-pay : goal.returns-in_ok-pay
+returns-in_ok-pay c =
+    enter_new _ _ _ _ _ (rw (to_z-of_z c.ranges.value, c.meter-meter.ensures) at c.seek_number-sought.ensures) c.settle.ensures c.in_ok-place.was c.in-Err.is c.in_ok-pay.ensures (rw (to_z-of_z c.ranges.value) at c.insert.ensures)
 
-pub returns-in-Stopped-pay : goal.returns-in-Stopped-pay
-returns-in-Stopped-pay c =
-    enter_unpaid c.args.value c.args.budget c.args.count c.args.table.now (rw (to_z-of_z c.ranges.value) at c.seek_number.ensures) c.in-Absent.is c.with-in-Absent.ensures c.pay.ensures c.in-Stopped-pay.is
-
-pub returns-in-Paid : goal.returns-in-Paid
-returns-in-Paid c =
-    enter_new c.args.value c.args.budget c.args.count c.args.table.now (rw (to_z-of_z c.ranges.value) at c.seek_number.ensures) c.in-Absent.is c.with-in-Absent.ensures c.pay.ensures c.in-Paid.is (rw (to_z-of_z c.ranges.value) at c.insert_number.ensures)
+pub returns-in_default : goal.returns-in_default
+returns-in_default c = enter_found _ _ _ _ _ (rw (to_z-of_z c.ranges.value, c.meter-meter.ensures) at c.seek_number-sought.ensures) c.settle.ensures c.in_ok-place.was c.in_default.is

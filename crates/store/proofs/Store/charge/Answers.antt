@@ -1,10 +1,9 @@
 -- `store::Store::charge` meets its contract.
-use Rattle.limits.specs.Budget.{charge}
-use Rattle.store.proofs.CodeLaws.{charge_paid, charge_stopped}
+use Rattle.limits.proofs.Answering.{replied_ok, replied_err}
 use Rattle.store.proofs.Store.charge.Goals as goal
 
-pub returns-in-Paid : goal.returns-in-Paid
-returns-in-Paid c = charge_paid (charge c.args.resource c.args.amount) c.args.self c.charge.ensures c.in-Paid.is c.with_budget.ensures
+pub returns-in-Ok : goal.returns-in-Ok
+returns-in-Ok c = replied_ok c.pay.ensures c.in-Ok.is
 
-pub returns-in-Stopped : goal.returns-in-Stopped
-returns-in-Stopped c = charge_stopped (charge c.args.resource c.args.amount) c.args.self c.charge.ensures c.in-Stopped.is c.with_budget-in-Stopped.ensures
+pub returns-in-Err : goal.returns-in-Err
+returns-in-Err c = replied_err c.pay.ensures c.in-Err.is
