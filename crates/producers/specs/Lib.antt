@@ -1,2 +1,2 @@
 pub mod Producer
-pub mod Answers
+pub mod Scopes

@@ -2,511 +2,266 @@
 //! what its heads recorded stays recorded.
 #![tactic(auto)]
 
-ghost use Rattle.std.specs.Prelude.{◌≡◌, ◌+◌, ◌≤◌, ◌<◌, take, true};
-ghost use Rattle.store.specs.Store.{with_rules};
+ghost use Rattle.std.specs.Prelude.{◌≡◌, ◌+◌, ◌≤◌, ◌<◌, ℕ, length, true};
+ghost use Rattle.limits.specs.declared.Meter.{Meter};
+ghost use Rattle.limits.specs.Metered.{Metered};
+ghost use Rattle.limits.specs.Refusal.{Told, replied};
 ghost use Rattle.store.specs.Calls.{charged};
-ghost use Rattle.store.specs.Answers.{done};
-ghost use Rattle.provenance.specs.Provenance.{Room};
-ghost use Rattle.producers.specs.Producer.{scope, each, slot_in, check_expression, check_pair, check_binding, check_guard, check_body, check_value, check_head, check_heads, check_rule, shapely, sizes, spacious, cost, tables, rule_call};
-ghost use Rattle.producers.specs.Answers.{Checks, Asks, checked_in, Leaves, on_tables};
+ghost use Rattle.provenance.specs.Provenance.{records, Room};
+ghost use Rattle.producers.specs.Producer.{Scope, each, slot_in, check_expression, check_pair, check_body, check_value, check_head, check_heads, check_rule, shapely, sizes, spacious, cost, tables, rule_call};
+ghost use Rattle.producers.specs.Scopes.{scope_in};
 
-use limits::{Charged, Refusal, Resource};
+use limits::{Meter, Refusal, Resource};
 use nodes::Expression;
 use rules::{Binding, BindingItem, Guard, GuardItem, Head, Rule};
-use store::{Answer, Done, Store};
+use store::Store;
 
-// What a check makes of the work.
+// What a rule is checked against: the expressions and the arguments that stand, and the rule's slots.
 #[derive(Clone, Copy)]
-pub enum Checked {
-    Passed(u64),
-    Refused(Refusal, u64),
-}
-
-fn check_slot(slot: u64, slots: u64, work: u64) -> Checked
-    ensures { Asks (slot_in slots slot) work result }
-{
-    if slots <= slot {
-        return Checked::Refused(Refusal::MissingSlot, work);
-    }
-    Checked::Passed(work)
-}
-
-// An expression of the rule: it and all below it exist, and so do their slots. The right child comes first.
-fn check_expression(
-    nodes: &[u64],
-    expressions: usize,
-    slots: u64,
-    id: u64,
-    work: u64,
-    max_work: u64,
-) -> Checked
-    ensures { Checks (check_expression (scope nodes.now expressions slots) id) work max_work result }
-{
-    match limits::charge(Resource::Work, work, 1, max_work) {
-        Charged::Stopped(stop, now) => Checked::Refused(Refusal::Limit(stop), now),
-        Charged::Paid(now) => {
-            if expressions as u64 <= id {
-                return Checked::Refused(Refusal::Missing, now);
-            }
-            match nodes::expression_at(nodes, id as usize) {
-                Expression::Constant(_) => Checked::Passed(now),
-                Expression::Slot(slot) => check_slot(slot, slots, now),
-                Expression::Unary(_, value) => {
-                    check_expression(nodes, expressions, slots, value, now, max_work)
-                }
-                Expression::Absolute(value) => {
-                    check_expression(nodes, expressions, slots, value, now, max_work)
-                }
-                Expression::Binary(_, left, right) => {
-                    match check_expression(nodes, expressions, slots, right, now, max_work) {
-                        Checked::Refused(refusal, spent) => Checked::Refused(refusal, spent),
-                        Checked::Passed(spent) => {
-                            check_expression(nodes, expressions, slots, left, spent, max_work)
-                        }
-                    }
-                }
-                Expression::Unknown(_, _) => Checked::Passed(now),
-            }
-        }
-    }
-}
-
-// Two expressions, one after the other.
-fn check_pair(
-    nodes: &[u64],
-    expressions: usize,
-    slots: u64,
-    first: u64,
-    second: u64,
-    work: u64,
-    max_work: u64,
-) -> Checked
-    ensures { Checks (check_pair (scope nodes.now expressions slots) first second) work max_work result }
-{
-    match check_expression(nodes, expressions, slots, first, work, max_work) {
-        Checked::Refused(refusal, spent) => Checked::Refused(refusal, spent),
-        Checked::Passed(spent) => {
-            check_expression(nodes, expressions, slots, second, spent, max_work)
-        }
-    }
-}
-
-fn check_binding(
-    nodes: &[u64],
+struct Checker<'a> {
+    nodes: &'a [u64],
     expressions: usize,
     arguments: usize,
     slots: u64,
-    binding: Binding,
-    work: u64,
-    max_work: u64,
-) -> Checked
-    ensures { Checks (check_binding arguments (scope nodes.now expressions slots) binding) work max_work result }
-{
-    match binding {
-        Binding::Positive { slot, argument } => {
-            if arguments as u64 <= argument {
-                return Checked::Refused(Refusal::Missing, work);
-            }
-            check_slot(slot, slots, work)
+}
+
+// A part of a rule's body: a binding or a guard.
+trait Part: Copy {
+    // What is checked of it, where so many arguments stand.
+    ghost checks: { ℕ → Scope → Self → Metered Told Meter (Unit {0}) };
+
+    fn check(self, checker: Checker, meter: &mut Meter) -> Result<(), Refusal>
+        ensures { replied result meter.new ≡ checks checker.entry.arguments (scope_in checker.entry) self meter.old };
+}
+
+impl Checker<'_> {
+    fn check_slot(self, slot: u64, meter: &Meter) -> Result<(), Refusal>
+        ensures { replied result meter.now ≡ slot_in self.entry.slots slot meter.now }
+    {
+        if self.slots <= slot {
+            return Err(Refusal::MissingSlot);
         }
-        Binding::Assign { slot, value } => {
-            match check_expression(nodes, expressions, slots, value, work, max_work) {
-                Checked::Refused(refusal, spent) => Checked::Refused(refusal, spent),
-                Checked::Passed(spent) => check_slot(slot, slots, spent),
+        Ok(())
+    }
+
+    // An expression of the rule: it and all below it exist, and so do their slots. The right child comes first.
+    fn check_expression(self, id: u64, meter: &mut Meter) -> Result<(), Refusal>
+        ensures { replied result meter.new ≡ check_expression (scope_in self.entry) id meter.old }
+    {
+        meter.work(1)?;
+        if self.expressions as u64 <= id {
+            return Err(Refusal::Missing);
+        }
+        match nodes::expression_at(self.nodes, id as usize) {
+            Expression::Constant(_) | Expression::Unknown(_, _) => Ok(()),
+            Expression::Slot(slot) => self.check_slot(slot, meter),
+            Expression::Unary(_, value) | Expression::Absolute(value) => {
+                self.check_expression(value, meter)
+            }
+            Expression::Binary(_, left, right) => {
+                self.check_expression(right, meter)?;
+                self.check_expression(left, meter)
             }
         }
-        Binding::Range { slot, low, high } => {
-            match check_pair(nodes, expressions, slots, low, high, work, max_work) {
-                Checked::Refused(refusal, spent) => Checked::Refused(refusal, spent),
-                Checked::Passed(spent) => check_slot(slot, slots, spent),
-            }
+    }
+
+    // Two expressions, one after the other.
+    fn check_pair(self, first: u64, second: u64, meter: &mut Meter) -> Result<(), Refusal>
+        ensures { replied result meter.new ≡ check_pair (scope_in self.entry) first second meter.old }
+    {
+        self.check_expression(first, meter)?;
+        self.check_expression(second, meter)
+    }
+
+    // A unit of work, and then an expression.
+    fn check_value(self, id: u64, meter: &mut Meter) -> Result<(), Refusal>
+        ensures { replied result meter.new ≡ check_value (scope_in self.entry) id meter.old }
+    {
+        meter.work(1)?;
+        self.check_expression(id, meter)
+    }
+
+    // The parts of a body, a unit of work before each.
+    fn check_each<P: Part>(self, parts: &[P], meter: &mut Meter) -> Result<(), Refusal>
+        ensures { replied result meter.new ≡ each (P.checks self.entry.arguments (scope_in self.entry)) parts.now meter.old }
+    {
+        for part in parts {
+            meter.work(1)?;
+            part.check(self, meter)?;
         }
-        Binding::Aggregate { slot, function: _ } => check_slot(slot, slots, work),
+        Ok(())
+    }
+
+    // A head: its expression, then its argument, which is recorded at once.
+    fn check_head(self, head: Head, store: &mut Store, table: &mut [u32]) -> Result<(), Refusal>
+        requires { (store.old.counts.positions ≤ 256) × Room 1 store.old.context store.old.counts.provenance }
+        ensures { replied result (records store.new table.new) ≡ check_head (scope_in self.entry) head (records store.old table.old) }
+    {
+        let mut meter = store.budget.meter();
+        let checked = self.check_value(head.value, &mut meter);
+        store.budget.settle(meter);
+        checked?;
+        provenance::provenance(store, head.argument, table)
+    }
+
+    // All heads of a rule.
+    fn check_heads(
+        self,
+        heads: &[Head],
+        store: &mut Store,
+        table: &mut [u32],
+    ) -> Result<(), Refusal>
+        requires { (length heads.now ≤ 16) × ((store.old.counts.positions ≤ 256) × Room (length heads.now) store.old.context store.old.counts.provenance) }
+        ensures { replied result (records store.new table.new) ≡ check_heads (scope_in self.entry) heads.now (records store.old table.old) }
+    {
+        for head in heads {
+            self.check_head(*head, store, table)?;
+        }
+        Ok(())
+    }
+
+    // The bindings, then the guards.
+    fn check_body(self, rule: &Rule, meter: &mut Meter) -> Result<(), Refusal>
+        requires { (rule.now.lengths.bindings ≤ 32) × (rule.now.lengths.guards ≤ 32) }
+        ensures { replied result meter.new ≡ check_body self.entry.arguments (scope_in self.entry) rule.now meter.old }
+    {
+        self.check_each(&rule.bindings[..rule.lengths.bindings as usize], meter)?;
+        self.check_each(&rule.guards[..rule.lengths.guards as usize], meter)
     }
 }
 
-fn check_guard(
-    nodes: &[u64],
-    expressions: usize,
-    slots: u64,
-    guard: Guard,
-    work: u64,
-    max_work: u64,
-) -> Checked
-    ensures { Checks (check_guard (scope nodes.now expressions slots) guard) work max_work result }
-{
-    match guard {
-        Guard::Compare {
-            left,
-            relation: _,
-            right,
-        } => check_pair(nodes, expressions, slots, left, right, work, max_work),
-        Guard::Membership { slot, low, high } => {
-            if slots <= slot {
-                return Checked::Refused(Refusal::MissingSlot, work);
+impl Part for BindingItem {
+    ghost use Rattle.producers.specs.Producer.{check_binding};
+
+    ghost checks = { λ arguments s i. check_binding arguments s i.binding };
+
+    fn check(self, checker: Checker, meter: &mut Meter) -> Result<(), Refusal> {
+        match self.binding {
+            Binding::Positive { slot, argument } => {
+                if checker.arguments as u64 <= argument {
+                    return Err(Refusal::Missing);
+                }
+                checker.check_slot(slot, meter)
             }
-            check_pair(nodes, expressions, slots, low, high, work, max_work)
+            Binding::Assign { slot, value } => {
+                checker.check_expression(value, meter)?;
+                checker.check_slot(slot, meter)
+            }
+            Binding::Range { slot, low, high } => {
+                checker.check_pair(low, high, meter)?;
+                checker.check_slot(slot, meter)
+            }
+            Binding::Aggregate { slot, .. } => checker.check_slot(slot, meter),
         }
     }
 }
 
-// The first `count` bindings, a unit of work before each.
-fn check_bindings(
-    nodes: &[u64],
-    expressions: usize,
-    arguments: usize,
-    slots: u64,
-    bindings: [BindingItem; 32],
-    count: usize,
-    work: u64,
-    max_work: u64,
-) -> Checked
-    requires { count ≤ 32 }
-    ensures { Checks (each (λ i. check_binding arguments (scope nodes.now expressions slots) i.binding) (take count bindings)) work max_work result }
-{
-    let mut i: usize = 0;
-    let mut spent = work;
-    while i < count {
-        match limits::charge(Resource::Work, spent, 1, max_work) {
-            Charged::Stopped(stop, now) => {
-                return Checked::Refused(Refusal::Limit(stop), now);
-            }
-            Charged::Paid(now) => {
-                spent = now;
+impl Part for GuardItem {
+    ghost use Rattle.producers.specs.Producer.{check_guard};
+
+    ghost checks = { λ _ s i. check_guard s i.guard };
+
+    fn check(self, checker: Checker, meter: &mut Meter) -> Result<(), Refusal> {
+        match self.guard {
+            Guard::Compare { left, right, .. } => checker.check_pair(left, right, meter),
+            Guard::Membership { slot, low, high } => {
+                if checker.slots <= slot {
+                    return Err(Refusal::MissingSlot);
+                }
+                checker.check_pair(low, high, meter)
             }
         }
-        let item = bindings[i];
-        let binding = item.binding;
-        match check_binding(
-            nodes,
-            expressions,
-            arguments,
-            slots,
-            binding,
-            spent,
-            max_work,
-        ) {
-            Checked::Refused(refusal, now) => {
-                return Checked::Refused(refusal, now);
-            }
-            Checked::Passed(now) => {
-                spent = now;
-            }
-        }
-        i += 1;
     }
-    Checked::Passed(spent)
-}
-
-// The first `count` guards, a unit of work before each.
-fn check_guards(
-    nodes: &[u64],
-    expressions: usize,
-    slots: u64,
-    guards: [GuardItem; 32],
-    count: usize,
-    work: u64,
-    max_work: u64,
-) -> Checked
-    requires { count ≤ 32 }
-    ensures { Checks (each (λ i. check_guard (scope nodes.now expressions slots) i.guard) (take count guards)) work max_work result }
-{
-    let mut i: usize = 0;
-    let mut spent = work;
-    while i < count {
-        match limits::charge(Resource::Work, spent, 1, max_work) {
-            Charged::Stopped(stop, now) => {
-                return Checked::Refused(Refusal::Limit(stop), now);
-            }
-            Charged::Paid(now) => {
-                spent = now;
-            }
-        }
-        let item = guards[i];
-        let guard = item.guard;
-        match check_guard(nodes, expressions, slots, guard, spent, max_work) {
-            Checked::Refused(refusal, now) => {
-                return Checked::Refused(refusal, now);
-            }
-            Checked::Passed(now) => {
-                spent = now;
-            }
-        }
-        i += 1;
-    }
-    Checked::Passed(spent)
-}
-
-// The bindings, then the guards.
-fn check_body(
-    nodes: &[u64],
-    expressions: usize,
-    arguments: usize,
-    rule: Rule,
-    work: u64,
-    max_work: u64,
-) -> Checked
-    requires { (rule.lengths.bindings ≤ 32) × (rule.lengths.guards ≤ 32) }
-    ensures { Checks (check_body arguments (scope nodes.now expressions rule.slots) rule) work max_work result }
-{
-    let lengths = rule.lengths;
-    let bindings = rule.bindings;
-    let guards = rule.guards;
-    match check_bindings(
-        nodes,
-        expressions,
-        arguments,
-        rule.slots,
-        bindings,
-        lengths.bindings as usize,
-        work,
-        max_work,
-    ) {
-        Checked::Refused(refusal, spent) => Checked::Refused(refusal, spent),
-        Checked::Passed(spent) => check_guards(
-            nodes,
-            expressions,
-            rule.slots,
-            guards,
-            lengths.guards as usize,
-            spent,
-            max_work,
-        ),
-    }
-}
-
-// The header after a check.
-fn with_checked(store: Store, checked: Checked) -> Done
-    ensures { done result ≡ checked_in store checked }
-{
-    let budget = store.budget;
-    match checked {
-        Checked::Refused(refusal, work) => {
-            Done::Refused(
-                refusal,
-                store.with_budget(budget.with(Resource::Work, work)),
-            )
-        }
-        Checked::Passed(work) => Done::Ok(store.with_budget(budget.with(Resource::Work, work))),
-    }
-}
-
-// A unit of work, and then an expression.
-fn check_value(
-    nodes: &[u64],
-    expressions: usize,
-    slots: u64,
-    id: u64,
-    work: u64,
-    max_work: u64,
-) -> Checked
-    ensures { Checks (check_value (scope nodes.now expressions slots) id) work max_work result }
-{
-    match limits::charge(Resource::Work, work, 1, max_work) {
-        Charged::Stopped(stop, now) => Checked::Refused(Refusal::Limit(stop), now),
-        Charged::Paid(now) => check_expression(nodes, expressions, slots, id, now, max_work),
-    }
-}
-
-// A head: its expression, then its argument, which is recorded at once.
-fn check_head(
-    store: Store,
-    nodes: &[u64],
-    expressions: usize,
-    slots: u64,
-    head: Head,
-    records: &mut [u32],
-) -> Done
-    requires { (store.counts.positions ≤ 256) × Room 1 store.context store.counts.provenance }
-    ensures { Leaves (check_head (scope nodes.now expressions slots) head) store records.old result records.new }
-{
-    let budget = store.budget;
-    let limits = budget.limits;
-    let statistics = budget.statistics;
-    let checked = check_value(
-        nodes,
-        expressions,
-        slots,
-        head.value,
-        statistics.work,
-        limits.work,
-    );
-    match with_checked(store, checked) {
-        Done::Refused(refusal, kept) => Done::Refused(refusal, kept),
-        Done::Ok(passed) => provenance::provenance(passed, head.argument, records),
-    }
-}
-
-// The first `count` heads.
-fn check_heads(
-    store: Store,
-    nodes: &[u64],
-    expressions: usize,
-    slots: u64,
-    heads: [Head; 16],
-    count: usize,
-    records: &mut [u32],
-) -> Done
-    requires { (count ≤ 16) × ((store.counts.positions ≤ 256) × Room count store.context store.counts.provenance) }
-    ensures { Leaves (check_heads (scope nodes.now expressions slots) (take count heads)) store records.old result records.new }
-{
-    let mut i: usize = 0;
-    let mut left = store;
-    while i < count {
-        match check_head(left, nodes, expressions, slots, heads[i], records) {
-            Done::Refused(refusal, kept) => {
-                return Done::Refused(refusal, kept);
-            }
-            Done::Ok(passed) => {
-                left = passed;
-            }
-        }
-        i += 1;
-    }
-    Done::Ok(left)
 }
 
 // Whether the port has the shape of the rule.
-fn is_shapely(rule: Rule) -> bool
-    ensures { result ≡ shapely rule }
+fn is_shapely(rule: &Rule) -> bool
+    ensures { result ≡ shapely rule.now }
 {
-    let lengths = rule.lengths;
-    if 16 < rule.slots {
-        return false;
-    }
-    if 32 < lengths.bindings {
-        return false;
-    }
-    if 32 < lengths.guards {
-        return false;
-    }
-    if 16 < lengths.heads {
-        return false;
-    }
-    lengths.queries == 0
+    rule.slots <= 16
+        && rule.lengths.bindings <= 32
+        && rule.lengths.guards <= 32
+        && rule.lengths.heads <= 16
+        && rule.lengths.queries == 0
 }
 
 // The tables' sizes.
-fn sized(nodes: usize, rules: usize, records: usize) -> bool
+fn is_sized(nodes: usize, rules: usize, records: usize) -> bool
     ensures { result ≡ sizes nodes rules records }
 {
-    if nodes != nodes::ROW * 1024 {
-        return false;
-    }
-    if rules != rules::ROW * 256 {
-        return false;
-    }
-    records == 2 * provenance::RECORDS
+    nodes == nodes::ROW * 1024 && rules == rules::ROW * 256 && records == 2 * provenance::RECORDS
 }
 
 // Whether the tables have the rows that the header counts, and room for one rule more.
-fn room(store: Store) -> bool
-    ensures { result ≡ spacious store }
+fn has_room(store: &Store) -> bool
+    ensures { result ≡ spacious store.now }
 {
-    let counts = store.counts;
-    let context = store.context;
-    if 256 <= counts.rules {
-        return false;
-    }
-    if 1024 < counts.expressions {
-        return false;
-    }
-    if 256 < counts.positions {
-        return false;
-    }
-    provenance::is_recordable(context, counts.provenance)
+    store.counts.rules < 256
+        && store.counts.expressions <= 1024
+        && store.counts.positions <= 256
+        && provenance::is_recordable(store.context, store.counts.provenance)
 }
 
 // What a rule charges before it is looked at: a unit of work, and all its links at once.
-fn charge_rule(store: Store, rule: Rule) -> Done
-    requires { shapely rule ≡ true }
-    ensures { done result ≡ charged (cost rule) store }
+fn charge_rule(store: &mut Store, rule: &Rule) -> Result<(), Refusal>
+    requires { shapely rule.now ≡ true }
+    ensures { replied result store.new ≡ charged (cost rule.now) store.old }
 {
     let lengths = rule.lengths;
-    let sum = rule.slots + lengths.bindings + lengths.guards + lengths.heads + 1;
-    match store.charge(Resource::Work, 1) {
-        Done::Refused(refusal, kept) => Done::Refused(refusal, kept),
-        Done::Ok(paid) => paid.charge(Resource::Links, sum),
-    }
-}
-
-// The same header with one rule more.
-fn with_rule(store: Store) -> Store
-    requires { store.counts.rules < 256 }
-    ensures { result ≡ with_rules (store.counts.rules + 1) store }
-{
-    let mut counts = store.counts;
-    counts.rules = counts.rules + 1;
-    store.with_counts(counts)
+    store.pay(Resource::Work, 1)?;
+    store.pay(
+        Resource::Links,
+        rule.slots + lengths.bindings + lengths.guards + lengths.heads + 1,
+    )
 }
 
 // Everything that a rule is checked for, once it is charged.
-fn check_rule(store: Store, nodes: &[u64], rule: Rule, records: &mut [u32]) -> Done
-    requires { (shapely rule ≡ true) × ((store.counts.positions ≤ 256) × Room 16 store.context store.counts.provenance) }
-    ensures { Leaves (check_rule nodes.now rule) store records.old result records.new }
+fn check_rule(
+    store: &mut Store,
+    nodes: &[u64],
+    rule: &Rule,
+    table: &mut [u32],
+) -> Result<(), Refusal>
+    requires { (shapely rule.now ≡ true) × ((store.old.counts.positions ≤ 256) × Room 16 store.old.context store.old.counts.provenance) }
+    ensures { replied result (records store.new table.new) ≡ check_rule nodes.now rule.now (records store.old table.old) }
 {
-    let budget = store.budget;
-    let limits = budget.limits;
-    let statistics = budget.statistics;
-    let counts = store.counts;
-    let lengths = rule.lengths;
-    let heads = rule.heads;
-    let checked = check_body(
+    let checker = Checker {
         nodes,
-        counts.expressions,
-        counts.positions,
-        rule,
-        statistics.work,
-        limits.work,
-    );
-    match with_checked(store, checked) {
-        Done::Refused(refusal, kept) => Done::Refused(refusal, kept),
-        Done::Ok(passed) => check_heads(
-            passed,
-            nodes,
-            counts.expressions,
-            rule.slots,
-            heads,
-            lengths.heads as usize,
-            records,
-        ),
-    }
+        expressions: store.counts.expressions,
+        arguments: store.counts.positions,
+        slots: rule.slots,
+    };
+    let mut meter = store.budget.meter();
+    let checked = checker.check_body(rule, &mut meter);
+    store.budget.settle(meter);
+    checked?;
+    checker.check_heads(&rule.heads[..rule.lengths.heads as usize], store, table)
 }
 
 // A rule: its id.
+#[tactic(auto, unfolding(crate::specs::Producer::rule_call))]
 pub fn rule(
-    store: Store,
-    rule: Rule,
+    store: &mut Store,
+    rule: &Rule,
     nodes: &[u64],
     rules: &mut [u32],
     records: &mut [u32],
-) -> Answer
-    ensures { on_tables result rules.new records.new ≡ rule_call nodes.now rule (tables store rules.old records.old) }
+) -> Result<usize, Refusal>
+    ensures { replied result (tables store.new rules.new records.new) ≡ rule_call nodes.now rule.now (tables store.old rules.old records.old) }
 {
-    let phase = store.phase;
-    let context = store.context;
-    let counts = store.counts;
-    let id = counts.rules;
-    if !sized(nodes.len(), rules.len(), records.len()) {
-        return Answer::Refused(Refusal::Shape, store);
+    if !is_sized(nodes.len(), rules.len(), records.len()) || !is_shapely(rule) {
+        return Err(Refusal::Shape);
     }
-    if !is_shapely(rule) {
-        return Answer::Refused(Refusal::Shape, store);
+    if !store.phase.admits() {
+        return Err(Refusal::Closed);
     }
-    if !phase.admits() {
-        return Answer::Refused(Refusal::Closed, store);
+    if !has_room(store) {
+        return Err(Refusal::Full);
     }
-    if !room(store) {
-        return Answer::Refused(Refusal::Full, store);
-    }
-    match charge_rule(store, rule) {
-        Done::Refused(refusal, kept) => Answer::Refused(refusal, kept),
-        Done::Ok(paid) => match check_rule(paid, nodes, rule, records) {
-            Done::Refused(refusal, kept) => Answer::Refused(refusal, kept),
-            Done::Ok(passed) => {
-                rules::put_rule(rules, id, rule, context);
-                Answer::Id(id, with_rule(passed))
-            }
-        },
-    }
+    charge_rule(store, rule)?;
+    check_rule(store, nodes, rule, records)?;
+    let id = store.counts.rules;
+    rules::put_rule(rules, id, *rule, store.context);
+    store.counts.rules += 1;
+    Ok(id)
 }

@@ -55,6 +55,26 @@ module _ {A : Type 0} (m : Metered Stop Budget A) (s : Store) where
   unfolding through mapped
   charge_off h = rw (← h)
 
+-- one charge after another
+module _ {A B : Type 0} (m : Metered Stop Budget A) (n : Metered Stop Budget B) (s : Store) where
+  pub charged_then_stop : {f : Told} {u : Store} → stopped f u ≡ charged m s → stopped f u ≡ charged (m >> n) s
+  unfolding through mapped ◌>>◌ ◌>>=◌ after
+  charged_then_stop {f} {u} h = go (m s.budget) h
+    where
+      go : (y : Run Stop Budget A) → stopped f u ≡ mapped (λ v. v) (λ v. v) (λ e. told (Limit e)) (mapped (λ b. with_budget b s) (λ b. with_budget b s) (λ e. e) y) →
+          stopped f u ≡ mapped (λ v. v) (λ v. v) (λ e. told (Limit e)) (mapped (λ b. with_budget b s) (λ b. with_budget b s) (λ e. e) (after y (λ _. n)))
+      go (going a b) q = let z : ◌≡◌ {A = ℕ} 0 1 = cc in absurd (omega arith)
+      go (stopped t b) q = cc
+
+  pub charged_then_on : {a : A} {u : Store} → going a u ≡ charged m s → {y : Run Told Store B} → y ≡ charged n u → y ≡ charged (m >> n) s
+  unfolding through mapped ◌>>◌ ◌>>=◌ after
+  charged_then_on {a} {u} h {y} k = go (m s.budget) h
+    where
+      go : (z : Run Stop Budget A) → going a u ≡ mapped (λ v. v) (λ v. v) (λ e. told (Limit e)) (mapped (λ b. with_budget b s) (λ b. with_budget b s) (λ e. e) z) →
+          y ≡ mapped (λ v. v) (λ v. v) (λ e. told (Limit e)) (mapped (λ b. with_budget b s) (λ b. with_budget b s) (λ e. e) (after z (λ _. n)))
+      go (going a b) q = let w : u ≡ with_budget b s = cc in k ∙ rw w
+      go (stopped t b) q = let z : ◌≡◌ {A = ℕ} 0 1 = cc in absurd (omega arith)
+
 -- all of a new predicate's charges, or none
 module _ (arity : ℕ) (b : Budget) where
   pub declare_all : {t : Budget} → going tt t ≡ (predicates 1 >> positions arity >> work arity) b → going tt t ≡ declared arity b

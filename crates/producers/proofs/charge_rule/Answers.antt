@@ -1,22 +1,10 @@
 -- `producers::charge_rule` meets its contract.
-use Rattle.producers.proofs.CodeLaws.{lengthy, cost_first, cost_second}
-use native.Mathlib.Omega.{arith}
+use Rattle.limits.proofs.Answering.{replied_ok, replied_err, refuses}
+use Rattle.producers.proofs.CodeLaws.{cost_unpaid, cost_paid}
 use Rattle.producers.proofs.charge_rule.Goals as goal
 
-pub overflow_add-sum : goal.overflow_add-sum
-overflow_add-sum c = let l = lengthy c.args.rule c.requires in omega (arith, l.slots, l.bindings, l.guards, l.heads)
+pub returns-in_err-pay : goal.returns-in_err-pay
+returns-in_err-pay c = refuses _ _ c.from_residual.ensures.1 (cost_unpaid c.args.rule.now c.args.store.now _ (replied_err c.pay.ensures c.in_err-pay.was))
 
-pub overflow_add-sum-2 : goal.overflow_add-sum-2
-overflow_add-sum-2 c = let l = lengthy c.args.rule c.requires in omega (arith, l.slots, l.bindings, l.guards, l.heads)
-
-pub overflow_add-sum-3 : goal.overflow_add-sum-3
-overflow_add-sum-3 c = let l = lengthy c.args.rule c.requires in omega (arith, l.slots, l.bindings, l.guards, l.heads)
-
-pub overflow_add-sum-4 : goal.overflow_add-sum-4
-overflow_add-sum-4 c = let l = lengthy c.args.rule c.requires in omega (arith, l.slots, l.bindings, l.guards, l.heads)
-
-pub returns-in-Refused : goal.returns-in-Refused
-returns-in-Refused c = cost_first c.args.rule c.args.store c.charge.ensures c.in-Refused.is
-
-pub returns-in-Ok : goal.returns-in-Ok
-returns-in-Ok c = cost_second c.args.rule c.args.store c.charge.ensures c.in-Ok.is c.charge-in-Ok.ensures
+pub returns : goal.returns
+returns c = cost_paid c.args.rule.now c.args.store.now (replied_ok c.pay.ensures c.in_ok-pay.was) c.pay-2.ensures
