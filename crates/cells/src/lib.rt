@@ -8,33 +8,27 @@ ghost use Rattle.cells.specs.Cells.{to_cell, of_cell};
 pub fn cell_at(cells: &[u32], i: usize) -> u32
     ensures { result ≡ get_or cells.now i 0 }
 {
-    if i < cells.len() {
-        return cells[i];
-    }
-    0
+    cells.get(i).copied().unwrap_or(0)
 }
 
-// A cell beyond the table is not written.
+// A cell beyond the table is not written. An index, since std's `get_mut` does not say what the slice ends as.
 pub fn put_cell(cells: &mut [u32], i: usize, cell: u32)
     ensures { cells.new ≡ set cells.old i cell }
 {
-    if cells.len() <= i {
-        return;
+    if i < cells.len() {
+        cells[i] = cell;
     }
-    cells[i] = cell;
 }
 
 // A number as its cell holds it: shifted up by 2^31.
 pub fn to_cell(number: i32) -> u32
     ensures { result ≡ to_cell number }
 {
-    let shifted = number as i64 + 2147483648;
-    shifted as u32
+    number.abs_diff(i32::MIN)
 }
 
 pub fn of_cell(cell: u32) -> i32
     ensures { result ≡ of_cell cell }
 {
-    let shifted = cell as i64 - 2147483648;
-    shifted as i32
+    i32::MIN.wrapping_add_unsigned(cell)
 }

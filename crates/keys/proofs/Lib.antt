@@ -1,3 +1,3 @@
-pub mod CodeLaws
 pub mod KeyOrder
 pub mod CodecLaws
+pub mod CodeLaws

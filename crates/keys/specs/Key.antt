@@ -7,6 +7,8 @@ use Rattle.limits.specs.declared.Meter.{Meter}
 use Rattle.cells.specs.Cells.{of_cell}
 use Rattle.std.specs.declared.cmp.Ordering.{Ordering}
 use Rattle.std.specs.declared.cmp.Ordering.TheVariants.{Less, Equal, Greater}
+use Rattle.keys.specs.declared.Key as declared
+use Rattle.keys.specs.declared.Key.TheVariants.{Number, Name}
 use Rattle.search.specs.Seek.{Place, by, compareℕ, compareℤ, seek}
 
 -- "a key is a signed 32-bit number or a name of 0 to 64 bytes"
@@ -54,10 +56,10 @@ put_name names id text = sets names (64 * id) text
 
 -- ---- the search
 
--- the key that a call is given: a mark, a number, the bytes
-abbrev pub key_of : Bool → ℤ → List ℕ → Key
-key_of true z text = name text
-key_of false z text = number z
+-- the key that the code has
+abbrev pub key_of : declared.Key → Key
+key_of (Number z) = number z
+key_of (Name text) = name text.now
 
 -- how the key of the i-th id of the key order stands to k
 abbrev pub probe : List ℕ → List ℕ → List ℕ → Key → ℕ → Ordering

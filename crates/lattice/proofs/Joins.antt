@@ -17,8 +17,8 @@ use Rattle.limits.proofs.Monad.{Ensures, by_pure, bind, then, weaken}
 use Rattle.interval.specs.declared.Bound.{Bound}
 use Rattle.interval.specs.Bound.{hull_bound}
 use Rattle.lattice.specs.declared.Widening.TheVariants.{ValueWidth}
-use Rattle.lattice.specs.declared.Reason.{Reason}
-use Rattle.lattice.specs.declared.Reason.TheVariants.{Some}
+use Rattle.lattice.specs.Value.{Reason}
+use Rattle.std.specs.Prelude.{Some}
 use Rattle.lattice.specs.Value.{Value, value}
 use Rattle.lists.specs.Lists.{union}
 use Rattle.lattice.specs.Lattice.{first, joined_of, join_lists, join}

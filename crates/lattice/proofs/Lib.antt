@@ -7,3 +7,4 @@ pub mod Steadiness
 pub mod Members
 pub mod CodeLaws
 pub mod Sifting
+pub mod Limits

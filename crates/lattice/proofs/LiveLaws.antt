@@ -15,7 +15,7 @@ use Rattle.interval.specs.declared.Constant.TheVariants.{Number, Name, Large}
 use Rattle.interval.specs.Bound.{bottom_of, meet_bound, same_bound, allows_of}
 use Rattle.lists.specs.Lists.{union}
 use Rattle.lists.proofs.LiveLaws.{list_size, push_lives, work_lives, retain_all_lives, collect_lives, permits_lives, same_ids_live}
-use Rattle.lattice.specs.declared.Reason.{Reason}
+use Rattle.lattice.specs.Value.{Reason}
 use Rattle.lattice.specs.Value.{Value}
 use Rattle.lattice.specs.Constants.{constant_at}
 use Rattle.lattice.specs.Lattice.{numeric, retained, constant, copied_list, copied, same_lists, same, joined_of, join_lists, join, permitted, keep_one, sift, reduce, source, meet_lists, meet, refine}

@@ -18,7 +18,7 @@ use Rattle.interval.specs.declared.Bound.{Bound}
 use Rattle.interval.specs.Bound.{bottom_of, hull_bound, meet_bound, same_bound, allows_of}
 use Rattle.interval.specs.Bound as bounds
 use Rattle.interval.proofs.Members.{same_bound_is}
-use Rattle.lattice.specs.declared.Reason.TheVariants.{None}
+use Rattle.std.specs.Prelude.{None}
 use Rattle.lattice.specs.Value.{Value, value}
 use Rattle.lattice.specs.Constants.{constant_at}
 use Rattle.lists.specs.Lists.{push}

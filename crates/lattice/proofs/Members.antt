@@ -24,7 +24,7 @@ use Rattle.interval.specs.Interval.{cousot}
 use Rattle.interval.specs.Bound.{top_of, bottom_of, numeric_of, hull_bound, meet_bound, same_bound, allows_of, HasNumber, HasNames}
 use Rattle.interval.specs.Bound as bounds
 use Rattle.interval.proofs.Members.{hull_number, hull_names, meet_number, meet_names, allows_number, allows_name, constant_number_lem, same_bound_is}
-use Rattle.lattice.specs.declared.Reason.{Reason}
+use Rattle.lattice.specs.Value.{Reason}
 use Rattle.lattice.specs.Value.{Value}
 use Rattle.lattice.specs.Constants.{constant_at}
 use Rattle.lists.specs.Lists.{union}

@@ -14,7 +14,7 @@ use Rattle.interval.specs.declared.Constant.TheVariants.{Number, Name, Large}
 use Rattle.interval.specs.Bound.{bottom_of, meet_bound, same_bound, allows_of}
 use Rattle.search.specs.Seek.{found?}
 use Rattle.search.proofs.Complete.{steady_seek}
-use Rattle.lattice.specs.declared.Reason.{Reason}
+use Rattle.lattice.specs.Value.{Reason}
 use Rattle.lattice.specs.Value.{Value}
 use Rattle.lattice.specs.Constants.{constant_at}
 use Rattle.lists.specs.Lists.{union, push, take_one, collect, permits_in, permits, same_ids}

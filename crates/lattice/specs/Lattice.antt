@@ -1,5 +1,5 @@
 -- The operations of lattice.rs on abstract values, with its charges in its order. 01, "Leaves: bounds and lists".
-use Rattle.std.specs.Prelude.{ℕ, Bool, true, false, cond, ◌&&◌, List, [], ◌∷◌, ◌++◌, leb, eqb, length}
+use Rattle.std.specs.Prelude.{ℕ, Bool, true, false, cond, ◌&&◌, List, [], ◌∷◌, ◌++◌, leb, eqb, length, Some, None}
 use Rattle.std.proofs.Math.Option.{Option, some, none}
 use Rattle.limits.specs.declared.Stop.{Stop}
 use Rattle.limits.specs.Metered.{Metered, pure, ◌>>=◌, ◌>>◌, fold_m}
@@ -13,9 +13,7 @@ use Rattle.interval.specs.declared.Constant.TheVariants.{Number, Name, Large}
 use Rattle.interval.specs.Bound.{top_of, bottom_of, numeric_of, hull_bound, meet_bound, same_bound, allows_of}
 use Rattle.interval.specs.Bound as bounds
 use Rattle.lattice.specs.declared.Widening.TheVariants.{SymbolSize, ValueWidth}
-use Rattle.lattice.specs.declared.Reason.{Reason}
-use Rattle.lattice.specs.declared.Reason.TheVariants.{None, Some}
-use Rattle.lattice.specs.Value.{Value, value}
+use Rattle.lattice.specs.Value.{Value, value, Reason}
 use Rattle.lattice.specs.Constants.{constant_at}
 use Rattle.lists.specs.Lists.{union, push, retain_all, collect, permits, same_ids}
 
@@ -111,8 +109,12 @@ source none y = y
 source (some x) none = some x
 source (some x) (some y) = some (cond (leb (length x) (length y)) x y)
 
+-- a meet where neither value has a list: none, or the empty one where nothing is left
+abbrev pub without : Value → Value → Bound → Value
+without u v b = value b (cond (same_bound b bottom_of) (some []) none) (first u.widening v.widening)
+
 abbrev pub meet_lists : Value → Value → Bound → List ℕ → Option (List ℕ) → Metered Stop Meter Value
-meet_lists u v b constants none = pure (value b (cond (same_bound b bottom_of) (some []) none) (first u.widening v.widening))
+meet_lists u v b constants none = pure (without u v b)
 meet_lists u v b constants (some l) = do
   kept ← sift u v b constants [] l
   reduced ← reduce b constants kept

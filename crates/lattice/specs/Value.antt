@@ -1,12 +1,15 @@
 -- Abstract values as lattice.rs has them: a bound, perhaps a list of constant ids, and perhaps the reason why there is none.
-use Rattle.std.specs.Prelude.{ℕ, cond, List, take}
+use Rattle.std.specs.Prelude.{ℕ, cond, List, take, Some, None}
+use Rattle.std.specs.Prelude as prelude
 use Rattle.std.proofs.Math.Option.{Option, some, none}
 use Rattle.interval.specs.declared.Bound.{Bound}
 use Rattle.lattice.specs.declared.Widening.{Widening}
 use Rattle.lattice.specs.declared.Widening.TheVariants.{HeadForm, HeadTerm, UnboundVariable, SymbolSize, ValueWidth, Dependency}
-use Rattle.lattice.specs.declared.Reason.{Reason}
-use Rattle.lattice.specs.declared.Reason.TheVariants.{None, Some}
 use Rattle.lattice.specs.declared.Abstract.{Abstract}
+
+-- why there is no list, if there is a reason
+abbrev pub Reason : Type 0
+Reason = prelude.Option Widening
 
 pub record Value : Type 0 where
   pub bound : Bound

@@ -1,24 +1,28 @@
 //! Abstract values (lattice.rs, and the reasons of value.rs): a bound, perhaps a list of constants, and why there is none.
-//! Values go in and come back by value. Work and live entries are handed through as numbers, beside their limits; whoever makes
-//! a list releases its entries on every way out.
+//! Values go in and come back by value. Work and live entries are charged on a meter; whoever makes a list releases its entries
+//! on every way out.
 #![tactic(auto)]
 
-ghost use Rattle.std.specs.Prelude.{◌≡◌, [], take};
+ghost use Rattle.std.specs.Prelude.{◌≡◌, ◌≤◌, [], length, IfSome};
 ghost use Rattle.std.proofs.Math.Option.{some, none};
-ghost use Rattle.limits.specs.Meter.{meter};
+ghost use Rattle.limits.specs.Metered.{answered};
 ghost use Rattle.lists.specs.Lists.{permits};
-ghost use Rattle.lists.specs.Answers.{Answers, tried};
+ghost use Rattle.lists.specs.Ids.{ids_of, seen};
 ghost use Rattle.lattice.specs.Value.{value, value_of, widening_number, reason_number};
 ghost use Rattle.lattice.specs.Constants.{constant_at};
-ghost use Rattle.lattice.specs.Lattice.{bottom, top, numeric, retained, constant, copied_as, copied, same_lists, same, first, join_lists, join, permitted, keep_one, sift, source, meet_lists, meet, refine};
-ghost use Rattle.lattice.specs.Answers.{made, sifted, MadeOf, Makes, StopsAt, Reduces};
+ghost use Rattle.lattice.specs.Lattice.{bottom, top, numeric, retained, constant, copied, same_lists, same, join_lists, join, permitted, keep_one, sift, reduce, source, meet_lists, without, meet, refine};
+ghost use Rattle.lattice.specs.Answers.{lent, answered_value};
 
 use interval::{Bound, Constant, Interval};
-use limits::{Charged, Resource, Stop};
-use lists::{Found, Kept, Trial, Verdict};
+use limits::{Meter, Stop};
+use lists::Ids;
+
+mod bridge;
+
+pub use bridge::{Made, Outcome};
 
 // Why an argument lost its list.
-#[derive(Clone, Copy)]
+#[derive(Clone, Copy, Debug, PartialEq, Eq)]
 pub enum Widening {
     HeadForm,
     HeadTerm,
@@ -28,12 +32,6 @@ pub enum Widening {
     Dependency,
 }
 
-#[derive(Clone, Copy)]
-pub enum Reason {
-    None,
-    Some(Widening),
-}
-
 // A bound, and where `kept` the list of the first `len` ids. Ids behind the list mean nothing.
 #[derive(Clone, Copy)]
 pub struct Abstract {
@@ -41,46 +39,14 @@ pub struct Abstract {
     pub len: usize,
     pub bound: Bound,
     pub kept: bool,
-    pub reason: Reason,
+    pub reason: Option<Widening>,
 }
 
-#[derive(Clone, Copy)]
-pub enum Outcome {
-    Done,
-    Stopped(Stop),
-}
+impl From<Widening> for u32 {
+    ghost from_gives = { λ w n. n ≡ widening_number w };
 
-// A value with the counts after it. Where the outcome is a stop there is no value, and the field means nothing.
-#[derive(Clone, Copy)]
-pub struct Made {
-    pub outcome: Outcome,
-    pub value: Abstract,
-    pub work: u64,
-    pub entries: u64,
-}
-
-// What is left of a list in a meet, with the counts after it.
-#[derive(Clone, Copy)]
-struct Sifted {
-    outcome: Outcome,
-    ids: [u16; 16],
-    len: usize,
-    work: u64,
-    entries: u64,
-}
-
-// A bound with the work after it.
-#[derive(Clone, Copy)]
-enum Reduced {
-    To(Bound, u64),
-    Stopped(Stop, u64, u64),
-}
-
-impl Widening {
-    pub fn number(self) -> u32
-        ensures { result ≡ widening_number self }
-    {
-        match self {
+    fn from(widening: Widening) -> u32 {
+        match widening {
             Widening::HeadForm => 1,
             Widening::HeadTerm => 2,
             Widening::UnboundVariable => 3,
@@ -91,24 +57,13 @@ impl Widening {
     }
 }
 
-impl Reason {
-    pub fn number(self) -> u32
-        ensures { result ≡ reason_number self }
-    {
-        match self {
-            Reason::None => 0,
-            Reason::Some(widening) => widening.number(),
-        }
-    }
-
-    // The first reason that there is.
-    pub fn or(self, other: Reason) -> Reason
-        ensures { result ≡ first self other }
-    {
-        match self {
-            Reason::None => other,
-            Reason::Some(_) => self,
-        }
+// A reason by its number, and 0 for none.
+pub fn reason_number(reason: Option<Widening>) -> u32
+    ensures { result ≡ reason_number reason }
+{
+    match reason {
+        Some(widening) => u32::from(widening),
+        None => 0,
     }
 }
 
@@ -116,420 +71,184 @@ impl Reason {
 pub fn constant_at(constants: &[u32], id: u16) -> Constant
     ensures { result ≡ constant_at constants.now id }
 {
-    let at = 2 * (id as usize);
-    let kind = cells::cell_at(constants, at);
-    if kind == 1 {
-        let cell = cells::cell_at(constants, at + 1);
-        return Constant::Number(cells::of_cell(cell));
+    let at = 2 * usize::from(id);
+    match cells::cell_at(constants, at) {
+        1 => Constant::Number(cells::of_cell(cells::cell_at(constants, at + 1))),
+        2 => Constant::Name,
+        _ => Constant::Large,
     }
-    if kind == 2 {
-        return Constant::Name;
-    }
-    Constant::Large
 }
 
-fn listed(bound: Bound, ids: [u16; 16], len: usize, reason: Reason) -> Abstract
-    ensures { value_of result ≡ value bound (some (take len ids)) reason }
+fn listed(bound: Bound, list: Ids, reason: Option<Widening>) -> Abstract
+    ensures { value_of result ≡ value bound (some (ids_of list)) reason }
 {
+    let (ids, len) = list.into_parts();
     Abstract {
-        bound,
         ids,
         len,
+        bound,
         kept: true,
         reason,
     }
 }
 
-fn unlisted(bound: Bound, reason: Reason) -> Abstract
+fn unlisted(bound: Bound, reason: Option<Widening>) -> Abstract
     ensures { value_of result ≡ value bound none reason }
 {
     Abstract {
-        bound,
-        ids: [0u16; 16],
+        ids: [0; 16],
         len: 0,
+        bound,
         kept: false,
         reason,
     }
 }
 
-fn made_of(value: Abstract, work: u64, entries: u64) -> Made
-    ensures { MadeOf (value_of value) work entries result }
+// A constant that is retained: its own id for a list, where the width admits one.
+fn retained(id: u16, bound: Bound, width: u64, meter: &mut Meter) -> Result<Abstract, Stop>
+    ensures { answered_value result meter.new ≡ retained id bound width meter.old }
 {
-    Made {
-        outcome: Outcome::Done,
-        value,
-        work,
-        entries,
+    if width == 0 {
+        return Ok(unlisted(bound, Some(Widening::ValueWidth)));
     }
+    meter.retain(1)?;
+    let mut list = Ids::new();
+    list.push(id);
+    Ok(listed(bound, list, None))
 }
 
-fn stopped_at(stop: Stop, work: u64, entries: u64) -> Made
-    ensures { StopsAt stop work entries result }
+// The lists of two values of one bound.
+fn same_lists(left: &Abstract, right: &Abstract, meter: &mut Meter) -> Result<bool, Stop>
+    ensures { answered result meter.new ≡ same_lists (value_of left.now).values (value_of right.now).values meter.old }
 {
-    Made {
-        outcome: Outcome::Stopped(stop),
-        value: unlisted(Bound::BOTTOM, Reason::None),
-        work,
-        entries,
+    match (left.list(), right.list()) {
+        (Some(l), Some(r)) if l.len() == r.len() => lists::same_ids(l, r, meter),
+        (None, None) => Ok(true),
+        _ => Ok(false),
     }
 }
 
 // The union of two lists in a join.
 fn join_lists(
-    left: [u16; 16],
-    ln: usize,
-    right: [u16; 16],
-    rn: usize,
+    left: &[u16],
+    right: &[u16],
     width: u64,
     bound: Bound,
-    reason: Reason,
-    work: u64,
-    max_work: u64,
-    entries: u64,
-    max_entries: u64,
-) -> Made
-    ensures { made result max_work max_entries ≡ join_lists width bound reason (some (take ln left)) (some (take rn right)) (meter work max_work entries max_entries) }
+    reason: Option<Widening>,
+    meter: &mut Meter,
+) -> Result<Abstract, Stop>
+    ensures { answered_value result meter.new ≡ join_lists width bound reason (some left.now) (some right.now) meter.old }
 {
-    let merged = lists::merge(
-        left,
-        ln,
-        right,
-        rn,
-        width,
-        work,
-        max_work,
-        entries,
-        max_entries,
-    );
-    let kept = merged.kept;
-    match kept {
-        Kept::Stopped(stop) => stopped_at(stop, merged.work, merged.entries),
-        Kept::None => {
-            let lost = reason.or(Reason::Some(Widening::ValueWidth));
-            made_of(unlisted(bound, lost), merged.work, merged.entries)
-        }
-        Kept::All => {
-            let ids = merged.ids;
-            made_of(
-                listed(bound, ids, merged.len, reason),
-                merged.work,
-                merged.entries,
-            )
-        }
+    match lists::merge(left, right, width, meter)? {
+        Some(list) => Ok(listed(bound, list, reason)),
+        None => Ok(unlisted(bound, reason.or(Some(Widening::ValueWidth)))),
     }
 }
 
-// Whether both values permit an id.
-fn both_permit(u: Abstract, v: Abstract, id: u16, work: u64, max_work: u64) -> Verdict
-    ensures { Answers (permitted (value_of u) (value_of v) id) work max_work result }
+// The list that a meet goes through: the shorter one, the left one of two of one length.
+fn source<'a>(left: &'a Abstract, right: &'a Abstract) -> Option<&'a [u16]>
+    ensures list { lent (λ l. l.now) result ≡ source (value_of left.now).values (value_of right.now).values }
+    ensures short { IfSome result (λ l. length l.now ≤ 16) }
 {
-    match u.permits(id, work, max_work) {
-        Verdict::Stopped(stop, now) => Verdict::Stopped(stop, now),
-        Verdict::No(now) => Verdict::No(now),
-        Verdict::Yes(now) => v.permits(id, now, max_work),
+    match (left.list(), right.list()) {
+        (Some(l), Some(r)) => Some(if l.len() <= r.len() { l } else { r }),
+        (Some(l), None) => Some(l),
+        (None, r) => r,
     }
 }
 
-// Whether an id of the shorter list stays in a meet.
-fn keep_one(
-    u: Abstract,
-    v: Abstract,
+// Two values that are met, within the bound that both have.
+#[derive(Clone, Copy)]
+struct Meeting<'a> {
+    left: &'a Abstract,
+    right: &'a Abstract,
     bound: Bound,
-    constants: &[u32],
-    held: u64,
-    id: u16,
-    work: u64,
-    max_work: u64,
-    entries: u64,
-    max_entries: u64,
-) -> Trial
-    ensures { tried result max_work max_entries ≡ keep_one (value_of u) (value_of v) bound constants.now held id (meter work max_work entries max_entries) }
-{
-    match limits::charge(Resource::Work, work, 1, max_work) {
-        Charged::Stopped(stop, now) => Trial::Stopped(stop, now, limits::release(entries, held)),
-        Charged::Paid(paid) => match both_permit(u, v, id, paid, max_work) {
-            Verdict::Stopped(stop, now) => {
-                Trial::Stopped(stop, now, limits::release(entries, held))
-            }
-            Verdict::No(now) => Trial::Left(now, entries),
-            Verdict::Yes(now) => {
-                if bound.allows(constant_at(constants, id)) {
-                    return lists::retain_one(held, now, entries, max_entries);
-                }
-                Trial::Left(now, entries)
-            }
-        },
-    }
+    constants: &'a [u32],
 }
 
-// What is left of a list in a meet: the ids that stay.
-fn sift_ids(
-    u: Abstract,
-    v: Abstract,
-    bound: Bound,
-    constants: &[u32],
-    source: [u16; 16],
-    len: usize,
-    work: u64,
-    max_work: u64,
-    entries: u64,
-    max_entries: u64,
-) -> Sifted
-    ensures { sifted result max_work max_entries ≡ sift (value_of u) (value_of v) bound constants.now [] (take len source) (meter work max_work entries max_entries) }
-{
-    let mut ids = [0u16; 16];
-    let mut n: usize = 0;
-    let mut i: usize = 0;
-    let mut spent = work;
-    let mut live = entries;
-    loop {
-        let Found::Id { id, next } = lists::id_at(source, len, i) else {
-            return Sifted {
-                outcome: Outcome::Done,
-                ids,
-                len: n,
-                work: spent,
-                entries: live,
-            };
-        };
-        match keep_one(
-            u,
-            v,
-            bound,
-            constants,
-            n as u64,
-            id,
-            spent,
-            max_work,
-            live,
-            max_entries,
-        ) {
-            Trial::Stopped(stop, w, e) => {
-                return Sifted {
-                    outcome: Outcome::Stopped(stop),
-                    ids,
-                    len: n,
-                    work: w,
-                    entries: e,
-                };
-            }
-            Trial::Left(w, e) => {
-                spent = w;
-                live = e;
-                i = next;
-            }
-            Trial::Taken(w, e) => {
-                spent = w;
-                live = e;
-                ids[n] = id;
-                n = n + 1;
-                i = next;
+impl Meeting<'_> {
+    // Whether both values permit an id.
+    fn permitted(&self, id: u16, meter: &mut Meter) -> Result<bool, Stop>
+        ensures { answered result meter.new ≡ permitted (value_of self.now.left.now) (value_of self.now.right.now) id meter.old }
+    {
+        if !self.left.permits(id, meter)? {
+            return Ok(false);
+        }
+        self.right.permits(id, meter)
+    }
+
+    // Whether an id of the shorter list stays. `held` ids have stayed before it.
+    fn keep_one(&self, held: u64, id: u16, meter: &mut Meter) -> Result<bool, Stop>
+        ensures { answered result meter.new ≡ keep_one (value_of self.now.left.now) (value_of self.now.right.now) self.now.bound self.now.constants.now held id meter.old }
+    {
+        let step = meter.work(1);
+        meter.holding(held, step)?;
+        let both = self.permitted(id, meter);
+        let both = meter.holding(held, both)?;
+        if both && self.bound.allows(constant_at(self.constants, id)) {
+            lists::retain_one(held, meter)?;
+            return Ok(true);
+        }
+        Ok(false)
+    }
+
+    // What is left of a list: the ids that stay.
+    fn sift(&self, source: &[u16], meter: &mut Meter) -> Result<Ids, Stop>
+        requires { length source.now ≤ 16 }
+        ensures { seen ids_of result meter.new ≡ sift (value_of self.now.left.now) (value_of self.now.right.now) self.now.bound self.now.constants.now [] source.now meter.old }
+    {
+        let mut kept = Ids::new();
+        for id in source {
+            if self.keep_one(kept.len() as u64, *id, meter)? {
+                kept.push(*id);
             }
         }
+        Ok(kept)
     }
-}
 
-// `Abstract::reduce`: the bound, shrunk to what the list holds.
-fn reduce_to(
-    bound: Bound,
-    constants: &[u32],
-    ids: [u16; 16],
-    len: usize,
-    work: u64,
-    max_work: u64,
-    entries: u64,
-) -> Reduced
-    ensures { Reduces bound constants.now (take len ids) work max_work entries result }
-{
-    let n = lists::length_of(ids, len);
-    let mut held = Bound::BOTTOM;
-    let mut i: usize = 0;
-    let mut spent = work;
-    while i < n {
-        match limits::charge(Resource::Work, spent, 1, max_work) {
-            Charged::Stopped(stop, now) => {
-                return Reduced::Stopped(stop, now, limits::release(entries, n as u64));
-            }
-            Charged::Paid(now) => {
-                spent = now;
-            }
+    // `Abstract::reduce`: the bound, shrunk to what the list holds.
+    fn reduce(&self, kept: &[u16], meter: &mut Meter) -> Result<Bound, Stop>
+        ensures { answered result meter.new ≡ reduce self.now.bound self.now.constants.now kept.now meter.old }
+    {
+        let mut held = Bound::BOTTOM;
+        for id in kept {
+            let step = meter.work(1);
+            meter.holding(kept.len() as u64, step)?;
+            held = held.hull(Bound::constant(constant_at(self.constants, *id)));
         }
-        let id = ids[i];
-        let wider = held.hull(Bound::constant(constant_at(constants, id)));
-        held = wider;
-        i = i + 1;
+        Ok(self.bound.meet(held))
     }
-    Reduced::To(bound.meet(held), spent)
-}
 
-// A meet where a value has a list: what is left of `source`, and the bound shrunk to it.
-fn meet_list(
-    u: Abstract,
-    v: Abstract,
-    bound: Bound,
-    constants: &[u32],
-    source: [u16; 16],
-    len: usize,
-    work: u64,
-    max_work: u64,
-    entries: u64,
-    max_entries: u64,
-) -> Made
-    ensures { made result max_work max_entries ≡ meet_lists (value_of u) (value_of v) bound constants.now (some (take len source)) (meter work max_work entries max_entries) }
-{
-    let sifted = sift_ids(
-        u,
-        v,
-        bound,
-        constants,
-        source,
-        len,
-        work,
-        max_work,
-        entries,
-        max_entries,
-    );
-    let outcome = sifted.outcome;
-    let ids = sifted.ids;
-    match outcome {
-        Outcome::Stopped(stop) => stopped_at(stop, sifted.work, sifted.entries),
-        Outcome::Done => {
-            let live = sifted.entries;
-            match reduce_to(
-                bound,
-                constants,
-                ids,
-                sifted.len,
-                sifted.work,
-                max_work,
-                live,
-            ) {
-                Reduced::Stopped(stop, w, e) => stopped_at(stop, w, e),
-                Reduced::To(reduced, w) => {
-                    made_of(listed(reduced, ids, sifted.len, Reason::None), w, live)
-                }
-            }
+    // What is left of `source`, and the bound shrunk to it.
+    fn through(&self, source: &[u16], meter: &mut Meter) -> Result<Abstract, Stop>
+        requires { length source.now ≤ 16 }
+        ensures { answered_value result meter.new ≡ meet_lists (value_of self.now.left.now) (value_of self.now.right.now) self.now.bound self.now.constants.now (some source.now) meter.old }
+    {
+        let kept = self.sift(source, meter)?;
+        let bound = self.reduce(kept.as_slice(), meter)?;
+        Ok(listed(bound, kept, None))
+    }
+
+    // Where neither value has a list: none, or the empty one where nothing is left.
+    fn without(&self) -> Abstract
+        ensures { value_of result ≡ without (value_of self.now.left.now) (value_of self.now.right.now) self.now.bound }
+    {
+        let reason = self.left.reason.or(self.right.reason);
+        if self.bound.same(Bound::BOTTOM) {
+            return listed(self.bound, Ids::new(), reason);
         }
+        unlisted(self.bound, reason)
     }
-}
-
-// A constant that is retained: its own id for a list, where the width admits one.
-fn retained(id: u16, bound: Bound, width: u64, work: u64, entries: u64, max_entries: u64) -> Made
-    ensures { Makes (retained id bound width) work entries max_entries result }
-{
-    if width == 0 {
-        let value = unlisted(bound, Reason::Some(Widening::ValueWidth));
-        return made_of(value, work, entries);
-    }
-    match limits::charge(Resource::ValueEntries, entries, 1, max_entries) {
-        Charged::Stopped(stop, now) => stopped_at(stop, work, now),
-        Charged::Paid(now) => {
-            let mut ids = [0u16; 16];
-            ids[0] = id;
-            made_of(listed(bound, ids, 1, Reason::None), work, now)
-        }
-    }
-}
-
-// The entries of a copied list.
-fn copied_list(value: Abstract, work: u64, max_work: u64, entries: u64, max_entries: u64) -> Made
-    ensures { made result max_work max_entries ≡ copied_as (value_of value) (some (take value.len value.ids)) (meter work max_work entries max_entries) }
-{
-    let ids = value.ids;
-    let n = lists::length_of(ids, value.len) as u64;
-    match limits::charge(Resource::Work, work, n, max_work) {
-        Charged::Stopped(stop, now) => stopped_at(stop, now, entries),
-        Charged::Paid(now) => match lists::retain_all(n, entries, max_entries) {
-            Charged::Stopped(stop, live) => stopped_at(stop, now, live),
-            Charged::Paid(live) => made_of(value, now, live),
-        },
-    }
-}
-
-// The lists of two values of one bound.
-fn same_lists(u: Abstract, v: Abstract, work: u64, max_work: u64) -> Verdict
-    ensures { Answers (same_lists (value_of u).values (value_of v).values) work max_work result }
-{
-    if u.kept {
-        if v.kept {
-            let l = u.ids;
-            let r = v.ids;
-            if lists::length_of(l, u.len) == lists::length_of(r, v.len) {
-                return lists::same_ids(l, u.len, r, v.len, work, max_work);
-            }
-        }
-        return Verdict::No(work);
-    }
-    if v.kept {
-        return Verdict::No(work);
-    }
-    Verdict::Yes(work)
-}
-
-// The value whose list a meet goes through: the one with the shorter list, the left one of two of one length.
-fn source_of(u: Abstract, v: Abstract) -> Abstract
-    ensures { (value_of result).values ≡ source (value_of u).values (value_of v).values }
-{
-    if u.kept {
-        if v.kept {
-            let l = u.ids;
-            let r = v.ids;
-            if lists::length_of(l, u.len) <= lists::length_of(r, v.len) {
-                return u;
-            }
-            return v;
-        }
-        return u;
-    }
-    v
-}
-
-// A meet within the met bound, by the lists that there are.
-fn meet_within(
-    u: Abstract,
-    v: Abstract,
-    bound: Bound,
-    constants: &[u32],
-    work: u64,
-    max_work: u64,
-    entries: u64,
-    max_entries: u64,
-) -> Made
-    ensures { made result max_work max_entries ≡ meet_lists (value_of u) (value_of v) bound constants.now (source (value_of u).values (value_of v).values) (meter work max_work entries max_entries) }
-{
-    let s = source_of(u, v);
-    let ids = s.ids;
-    if s.kept {
-        return meet_list(
-            u,
-            v,
-            bound,
-            constants,
-            ids,
-            s.len,
-            work,
-            max_work,
-            entries,
-            max_entries,
-        );
-    }
-    let mine = u.reason;
-    let theirs = v.reason;
-    let reason = mine.or(theirs);
-    if bound.same(Bound::BOTTOM) {
-        return made_of(listed(bound, [0u16; 16], 0, reason), work, entries);
-    }
-    made_of(unlisted(bound, reason), work, entries)
 }
 
 impl Abstract {
     pub fn bottom() -> Abstract
         ensures { value_of result ≡ bottom }
     {
-        listed(Bound::BOTTOM, [0u16; 16], 0, Reason::None)
+        listed(Bound::BOTTOM, Ids::new(), None)
     }
 
-    pub fn top(reason: Reason) -> Abstract
+    pub fn top(reason: Option<Widening>) -> Abstract
         ensures { value_of result ≡ top reason }
     {
         unlisted(Bound::TOP, reason)
@@ -540,11 +259,19 @@ impl Abstract {
     {
         match interval {
             Interval::Bottom => Abstract::bottom(),
-            Interval::Bounded { low: _, high: _ } => {
-                unlisted(Bound::numeric(interval), Reason::None)
-            }
-            Interval::Unbounded => unlisted(Bound::numeric(interval), Reason::None),
+            _ => unlisted(Bound::numeric(interval), None),
         }
+    }
+
+    // The list, where there is one.
+    pub fn list(&self) -> Option<&[u16]>
+        ensures list { lent (λ l. l.now) result ≡ (value_of self.now).values }
+        ensures short { IfSome result (λ l. length l.now ≤ 16) }
+    {
+        if !self.kept {
+            return None;
+        }
+        Some(&self.ids[..self.len.min(16)])
     }
 
     // One constant. It has a list where it is retained and the width admits one.
@@ -552,107 +279,59 @@ impl Abstract {
         id: u16,
         key: Constant,
         width: u64,
-        work: u64,
-        entries: u64,
-        max_entries: u64,
-    ) -> Made
-        ensures { Makes (constant id key width) work entries max_entries result }
+        meter: &mut Meter,
+    ) -> Result<Abstract, Stop>
+        ensures { answered_value result meter.new ≡ constant id key width meter.old }
     {
         let bound = Bound::constant(key);
         match key {
-            Constant::Large => {
-                let value = unlisted(bound, Reason::Some(Widening::SymbolSize));
-                made_of(value, work, entries)
-            }
-            Constant::Name => retained(id, bound, width, work, entries, max_entries),
-            Constant::Number(_) => retained(id, bound, width, work, entries, max_entries),
+            Constant::Large => Ok(unlisted(bound, Some(Widening::SymbolSize))),
+            _ => retained(id, bound, width, meter),
         }
     }
 
-    pub fn copied(self, work: u64, max_work: u64, entries: u64, max_entries: u64) -> Made
-        ensures { made result max_work max_entries ≡ copied (value_of self) (meter work max_work entries max_entries) }
+    pub fn copied(self, meter: &mut Meter) -> Result<Abstract, Stop>
+        ensures { answered_value result meter.new ≡ copied (value_of self) meter.old }
     {
-        match limits::charge(Resource::Work, work, 1, max_work) {
-            Charged::Stopped(stop, now) => stopped_at(stop, now, entries),
-            Charged::Paid(now) => {
-                if self.kept {
-                    return copied_list(self, now, max_work, entries, max_entries);
-                }
-                made_of(self, now, entries)
-            }
+        meter.work(1)?;
+        if let Some(list) = self.list() {
+            let count = list.len() as u64;
+            meter.work(count)?;
+            lists::retain_all(count, meter)?;
         }
+        Ok(self)
     }
 
     // Whether the list, if there is one, has an id.
-    fn permits(self, id: u16, work: u64, max_work: u64) -> Verdict
-        ensures { Answers (permits (value_of self).values id) work max_work result }
+    fn permits(&self, id: u16, meter: &mut Meter) -> Result<bool, Stop>
+        ensures { answered result meter.new ≡ permits (value_of self.now).values id meter.old }
     {
-        if self.kept {
-            let ids = self.ids;
-            return lists::permits_id(ids, self.len, id, work, max_work);
+        match self.list() {
+            Some(ids) => lists::permits_id(ids, id, meter),
+            None => Ok(true),
         }
-        Verdict::Yes(work)
     }
 
     // Equal bounds and equal lists; the reasons are not compared.
-    pub fn same(self, other: Abstract, work: u64, max_work: u64) -> Verdict
-        ensures { Answers (same (value_of self) (value_of other)) work max_work result }
+    pub fn same(self, other: Abstract, meter: &mut Meter) -> Result<bool, Stop>
+        ensures { answered result meter.new ≡ same (value_of self) (value_of other) meter.old }
     {
-        match limits::charge(Resource::Work, work, 1, max_work) {
-            Charged::Stopped(stop, now) => Verdict::Stopped(stop, now),
-            Charged::Paid(now) => {
-                let a = self.bound;
-                let b = other.bound;
-                if a.same(b) {
-                    return same_lists(self, other, now, max_work);
-                }
-                Verdict::No(now)
-            }
+        meter.work(1)?;
+        if !self.bound.same(other.bound) {
+            return Ok(false);
         }
+        same_lists(&self, &other, meter)
     }
 
-    pub fn join(
-        self,
-        other: Abstract,
-        width: u64,
-        work: u64,
-        max_work: u64,
-        entries: u64,
-        max_entries: u64,
-    ) -> Made
-        ensures { made result max_work max_entries ≡ join width (value_of self) (value_of other) (meter work max_work entries max_entries) }
+    pub fn join(self, other: Abstract, width: u64, meter: &mut Meter) -> Result<Abstract, Stop>
+        ensures { answered_value result meter.new ≡ join width (value_of self) (value_of other) meter.old }
     {
-        match limits::charge(Resource::Work, work, 1, max_work) {
-            Charged::Stopped(stop, now) => stopped_at(stop, now, entries),
-            Charged::Paid(now) => {
-                let a = self.bound;
-                let b = other.bound;
-                let mine = self.reason;
-                let theirs = other.reason;
-                let bound = a.hull(b);
-                let reason = mine.or(theirs);
-                if self.kept {
-                    if other.kept {
-                        let l = self.ids;
-                        let r = other.ids;
-                        return join_lists(
-                            l,
-                            self.len,
-                            r,
-                            other.len,
-                            width,
-                            bound,
-                            reason,
-                            now,
-                            max_work,
-                            entries,
-                            max_entries,
-                        );
-                    }
-                    return made_of(unlisted(bound, reason), now, entries);
-                }
-                made_of(unlisted(bound, reason), now, entries)
-            }
+        meter.work(1)?;
+        let bound = self.bound.hull(other.bound);
+        let reason = self.reason.or(other.reason);
+        match (self.list(), other.list()) {
+            (Some(left), Some(right)) => join_lists(left, right, width, bound, reason, meter),
+            _ => Ok(unlisted(bound, reason)),
         }
     }
 
@@ -660,30 +339,20 @@ impl Abstract {
         self,
         other: Abstract,
         constants: &[u32],
-        work: u64,
-        max_work: u64,
-        entries: u64,
-        max_entries: u64,
-    ) -> Made
-        ensures { made result max_work max_entries ≡ meet constants.now (value_of self) (value_of other) (meter work max_work entries max_entries) }
+        meter: &mut Meter,
+    ) -> Result<Abstract, Stop>
+        ensures { answered_value result meter.new ≡ meet constants.now (value_of self) (value_of other) meter.old }
     {
-        match limits::charge(Resource::Work, work, 1, max_work) {
-            Charged::Stopped(stop, now) => stopped_at(stop, now, entries),
-            Charged::Paid(now) => {
-                let a = self.bound;
-                let b = other.bound;
-                let bound = a.meet(b);
-                meet_within(
-                    self,
-                    other,
-                    bound,
-                    constants,
-                    now,
-                    max_work,
-                    entries,
-                    max_entries,
-                )
-            }
+        meter.work(1)?;
+        let meeting = Meeting {
+            left: &self,
+            right: &other,
+            bound: self.bound.meet(other.bound),
+            constants,
+        };
+        match source(&self, &other) {
+            Some(ids) => meeting.through(ids, meter),
+            None => Ok(meeting.without()),
         }
     }
 
@@ -692,14 +361,10 @@ impl Abstract {
         self,
         interval: Interval,
         constants: &[u32],
-        work: u64,
-        max_work: u64,
-        entries: u64,
-        max_entries: u64,
-    ) -> Made
-        ensures { made result max_work max_entries ≡ refine constants.now (value_of self) interval (meter work max_work entries max_entries) }
+        meter: &mut Meter,
+    ) -> Result<Abstract, Stop>
+        ensures { answered_value result meter.new ≡ refine constants.now (value_of self) interval meter.old }
     {
-        let other = Abstract::numeric(interval);
-        self.meet(other, constants, work, max_work, entries, max_entries)
+        self.meet(Abstract::numeric(interval), constants, meter)
     }
 }

@@ -2,11 +2,7 @@
 use Rattle.std.specs.Prelude.{◌≡◌}
 use Rattle.limits.specs.declared.Limits.{Limits}
 use Rattle.limits.specs.declared.Statistics.{Statistics}
-use Rattle.limits.specs.declared.Stop.{Stop}
 use Rattle.limits.specs.declared.Budget.{Budget}
-use Rattle.limits.specs.Metered.{Run, going, stopped}
-use Rattle.lent.specs.declared.Outcome.{Outcome}
-use Rattle.lent.specs.declared.Outcome.TheVariants.{Paid, Stopped}
 
 abbrev pub budget_of : Limits → Statistics → Budget
 budget_of l s = record { limits = l; statistics = s }
@@ -14,8 +10,3 @@ budget_of l s = record { limits = l; statistics = s }
 -- whatever the limits are, f makes the counts s the counts s'
 abbrev pub After : (Budget → Budget) → Statistics → Statistics → Type 0
 After f s s' = (l : Limits) → budget_of l s' ≡ f (budget_of l s)
-
--- the answer and the counts afterwards, as what the monad gives
-abbrev pub settled : Outcome → Limits → Statistics → Run Stop Budget (Unit {0})
-settled Paid l s = going tt (budget_of l s)
-settled (Stopped e) l s = stopped e (budget_of l s)

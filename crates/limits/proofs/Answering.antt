@@ -1,13 +1,17 @@
 -- What follows from a clause `answered r s ≡ y`, at each way out of the code.
-use mathlib.Core.Path.{◌≡◌, sym, ap, ◌∙◌}
+use Prim.Native.Nat.{ℕ}
+use mathlib.Core.Path.{◌≡◌, refl, sym, ap, ◌∙◌}
 use Rattle.std.proofs.Common.{Result, Ok, Err}
 use Rattle.std.specs.Prelude.{IsErrAnd}
 use Rattle.std.proofs.lemmas.Result.{err_from_is_err_and}
-use Rattle.limits.specs.Metered.{Run, going, stopped, answered}
+use Rattle.limits.specs.declared.Stop.{Stop}
+use Rattle.limits.specs.declared.Meter.{Meter}
+use Rattle.limits.specs.Metered.{Run, going, stopped, Metered, answered, mapped, through, zoom}
+use Rattle.limits.specs.Meter.{released, holding, held_through}
+use Rattle.limits.proofs.Monad.{through_is}
 use Rattle.limits.specs.Refusal.{Told, told, replied}
 use Rattle.limits.specs.declared.Refusal.{Refusal}
 use Rattle.limits.specs.declared.Refusal.TheVariants.{Limit}
-use Rattle.limits.specs.declared.Stop.{Stop}
 
 module _ {E S A : Type 0} {r : Result A E} {s : S} {y : Run E S A} (h : answered r s ≡ y) where
   pub went : {a : A} → r ≡ Ok a → going a s ≡ y
@@ -20,6 +24,11 @@ module _ {E S A : Type 0} {r : Result A E} {s : S} {y : Run E S A} (h : answered
 module _ {E S A : Type 0} {s : S} {y : Run E S A} where
   pub exits : (x : Result A E) {e : E} → IsErrAnd x (λ d. d ≡ e) → stopped e s ≡ y → answered x s ≡ y
   exits x h k = let p = err_from_is_err_and x h in rw (p.1, p.2) k
+
+-- a step and then `Meter::holding`
+module _ {A : Type 0} (n : ℕ) (c : Metered Stop Meter A) (m : Meter) where
+  pub held_is : (x : Result A Stop) (m' : Meter) → answered x m' ≡ c m → held_through n x m' ≡ holding n c m
+  held_is x m' h = through_is (λ s. s) (λ _ t. t) (λ _ t. released n t) (λ e. e) c m h
 
 -- the exit of a `?` that makes a refusal of a stop
 module _ {S A : Type 0} {s : S} {y : Run Told S A} where
@@ -38,3 +47,13 @@ module _ {S A : Type 0} {r : Result A Refusal} {s : S} {y : Run Told S A} (h : r
 module _ {S A : Type 0} {s : S} {y : Run Told S A} where
   pub refuses : (x : Result A Refusal) (e : Refusal) → IsErrAnd x (λ d. d ≡ e) → stopped (told e) s ≡ y → replied x s ≡ y
   refuses x e h k = let p = err_from_is_err_and x h in rw (p.1, p.2) k
+
+-- what a call answers on a part of the state
+module _ {S T A : Type 0} (get : S → T) (put : T → S → S) (m : Metered Told T A) (s : S) where
+  pub replied_through : (r : Result A Refusal) (t : T) → replied r t ≡ m (get s) → replied r (put t s) ≡ zoom get put m s
+  unfolding through mapped
+  replied_through r t h = rw (← h) (go r)
+    where
+      go : (r : Result A Refusal) → replied r (put t s) ≡ mapped (λ u. put u s) (λ u. put u s) (λ e. e) (replied r t)
+      go (Ok a) = refl
+      go (Err e) = refl

@@ -1,5 +1,6 @@
 pub mod Unions
 pub mod ListLaws
 pub mod LiveLaws
+pub mod Seen
 pub mod CodeLaws
 pub mod Merging

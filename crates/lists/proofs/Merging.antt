@@ -1,117 +1,83 @@
 -- The loop of a merge, over plain lists and counts: what one turn takes of the two lists, and where the loop is left.
-use Prim.Native.Nat.{ℕ, ◌+◌, ◌-◌, ◌<◌, ◌≤◌, min}
+use Prim.Native.Nat.{ℕ, ◌+◌, ◌<◌, min}
 use native.Mathlib.Omega.{arith}
-use native.Mathlib.Numerals.{add-one}
-use mathlib.Core.Path.{◌≡◌, refl, sym, ap, subst, ◌∙◌}
-use mathlib.Core.Bool.{true}
+use mathlib.Core.Path.{◌≡◌, refl, sym, subst, ◌∙◌}
+use mathlib.Core.Bool.{true, false}
 use mathlib.Core.List.{List, [], ◌∷◌, ◌++◌}
 use mathlib.Core.Option.{some, none}
-use borrow.Author.Tests.{lt-ltb, le-ltb, leb-true}
+use borrow.Author.Tests.{lt-ltb, le-ltb, leb-true, eq-eqb, ne_eqb}
 use lib.Dec.{leb}
-use lib.ListN.{length, take, drop, set, length-take, length-set}
-use lib.Seq.{take-suc-set}
+use lib.ListN.{length}
+use Rattle.std.specs.Prelude.{Some, None}
 use Rattle.integers.proofs.ListLaws.{Compared, less, more, same, compared}
 use Rattle.limits.specs.declared.Stop.{Stop}
 use Rattle.limits.specs.Metered.{going, stopped, pure, after, ◌>>=◌}
 use Rattle.limits.specs.declared.Meter.{Meter}
-use Rattle.limits.specs.Meter.{meter}
-use Rattle.limits.proofs.Monad.{Holds}
-use Rattle.lists.specs.declared.Found.{Found}
-use Rattle.lists.specs.declared.Found.TheVariants.{Nothing, Id}
-use Rattle.lists.specs.declared.Next.{Next}
-use Rattle.lists.specs.declared.Next.TheVariants.{End, Take}
-use Rattle.lists.specs.declared.Trial.{Trial}
-use Rattle.lists.specs.declared.Trial.TheVariants.{Taken, Left}
-use Rattle.lists.specs.declared.Trial.TheVariants as trial
-use Rattle.lists.specs.Lists.{head_of, step_of, next_of, union, take_one, collect}
-use Rattle.lists.specs.Answers.{tried}
+use Rattle.limits.proofs.Monad.{Holds, bind_stop, bind_on, pure_is}
+use Rattle.lists.specs.Lists.{union, take_one, collect}
+use Rattle.lists.specs.Ids.{next_of, past}
 use Rattle.lists.proofs.ListLaws.{take_is}
-use Rattle.lists.proofs.CodeLaws.{Here, here_is, past_is}
 
-module _ (x y : List ℕ) (a b : ℕ) where
-  -- the union of what is left is v and then the union of what is left from a' and b' on, which is less
-  pub record Stepped (v a' b' : ℕ) : Type 0 where
-    pub union_is : union (drop a x) (drop b y) ≡ v ∷ union (drop a' x) (drop b' y)
-    pub a_in : a' ≤ length x
-    pub b_in : b' ≤ length y
-    pub falls : (length x - a') + (length y - b') < (length x - a) + (length y - b)
+-- the union of what is left is v and then the union of what is left behind it, which is less
+pub record Stepped (x y : List ℕ) (v : ℕ) : Type 0 where
+  pub union_is : union x y ≡ v ∷ union (past v x) (past v y)
+  pub falls : length (past v x) + length (past v y) < length x + length y
 
-  abbrev pub Facts : Next → Type 0
-  Facts End = union (drop a x) (drop b y) ≡ []
-  Facts (Take v a' b') = Stepped v a' b'
+stepped : (x y : List ℕ) (v : ℕ) → Some v ≡ next_of x y → Stepped x y v
+stepped [] [] v e = let z : ◌≡◌ {A = ℕ} 0 1 = cc in absurd (omega arith)
+stepped [] (b ∷ y) v e = let f : v ≡ b = cc in rw f (record { union_is = rw (eq-eqb b b refl); falls = rw (eq-eqb b b refl) (omega arith) })
+stepped (a ∷ x) [] v e = let f : v ≡ a = cc in rw f (record { union_is = rw (eq-eqb a a refl); falls = rw (eq-eqb a a refl) (omega arith) })
+stepped (a ∷ x) (b ∷ y) v e = let g : v ≡ min a b = cc in go g (compared a b)
+  where
+    go : v ≡ min a b → Compared a b → Stepped (a ∷ x) (b ∷ y) v
+    go g (less h) =
+        let f : v ≡ a = omega arith in
+        rw f (record { union_is = rw (lt-ltb a b h, eq-eqb a a refl, ne_eqb b a (λ p. omega arith)); falls = rw (eq-eqb a a refl, ne_eqb b a (λ p. omega arith)) (omega arith) })
+    go g (more h) =
+        let f : v ≡ b = omega arith in
+        rw f (record { union_is = rw (le-ltb a b (omega arith), lt-ltb b a h, eq-eqb b b refl, ne_eqb a b (λ p. omega arith)); falls = rw (eq-eqb b b refl, ne_eqb a b (λ p. omega arith)) (omega arith) })
+    go g (same h) =
+        let f : v ≡ a = omega arith in
+        rw (f, ← h) (record { union_is = rw (le-ltb a a (omega arith), eq-eqb a a refl); falls = rw (eq-eqb a a refl) (omega arith) })
 
-  module _ (ia : a ≤ length x) (ib : b ≤ length y) where
-    both : (u v a' b' : ℕ) → Here x a u a' → Here y b v b' → Compared u v → Facts (step_of a b (Id u a') (Id v b'))
-    both u v a' b' p q (less h) =
-        rw (lt-ltb u v h)
-        (record { union_is = rw (p.drops, q.drops, lt-ltb u v h, p.next); a_in = omega (arith, p.inside, p.next); b_in = ib; falls = omega (arith, p.inside, p.next) })
-    both u v a' b' p q (more h) =
-        rw (le-ltb u v (omega arith), lt-ltb v u h)
-        (record { union_is = rw (p.drops, q.drops, le-ltb u v (omega arith), lt-ltb v u h, q.next); a_in = ia; b_in = omega (arith, q.inside, q.next); falls = omega (arith, q.inside, q.next) })
-    both u v a' b' p q (same h) =
-        rw (le-ltb u v (omega arith), le-ltb v u (omega arith))
-        (record { union_is = rw (p.drops, q.drops, le-ltb u v (omega arith), le-ltb v u (omega arith), p.next, q.next); a_in = omega (arith, p.inside, p.next); b_in = omega (arith, q.inside, q.next); falls = omega (arith, p.inside, p.next, q.inside, q.next) })
-
-    cases : (f g : Found) → f ≡ head_of a (drop a x) → g ≡ head_of b (drop b y) → Facts (step_of a b f g)
-    cases Nothing Nothing p q = rw (past_is x a p, past_is y b q)
-    cases Nothing (Id v b') p q =
-        let h = here_is y b q in
-        record { union_is = rw (past_is x a p, h.drops, h.next); a_in = ia; b_in = omega (arith, h.inside, h.next); falls = omega (arith, h.inside, h.next) }
-    cases (Id u a') Nothing p q =
-        let h = here_is x a p in
-        record { union_is = rw (h.drops, past_is y b q, h.next); a_in = omega (arith, h.inside, h.next); b_in = ib; falls = omega (arith, h.inside, h.next) }
-    cases (Id u a') (Id v b') p q = both u v a' b' (here_is x a p) (here_is y b q) (compared u v)
-
-    pub facts : {r : Next} → r ≡ next_of x y a b → Facts r
-    unfolding next_of
-    facts e = rw e (cases (head_of a (drop a x)) (head_of b (drop b y)) refl refl)
+nothing_left : (x y : List ℕ) → None ≡ next_of x y → union x y ≡ []
+nothing_left [] [] e = refl
+nothing_left [] (b ∷ y) e = let z : ◌≡◌ {A = ℕ} 0 1 = cc in absurd (omega arith)
+nothing_left (a ∷ x) [] e = let z : ◌≡◌ {A = ℕ} 0 1 = cc in absurd (omega arith)
+nothing_left (a ∷ x) (b ∷ y) e = let z : ◌≡◌ {A = ℕ} 0 1 = cc in absurd (omega arith)
 
 -- ---- the loop
 
--- n ids are kept, and the merge begun at m₀ is that of what is left from a and b on
-pub record Merging (x y : List ℕ) (width : ℕ) (m₀ : Meter) (ids : List ℕ) (n a b : ℕ) (m : Meter) : Type 0 where
-  pub long : length ids ≡ 16
-  pub n_in : n ≤ 16
-  pub a_in : a ≤ length x
-  pub b_in : b ≤ length y
-  pub run : collect width [] (union x y) m₀ ≡ collect width (take n ids) (union (drop a x) (drop b y)) m
+-- the merge of l and r begun at m₀ is that of what is left, x and y, behind the ids that are kept
+pub record Merging (l r : List ℕ) (width : ℕ) (m₀ : Meter) (kept x y : List ℕ) (m : Meter) : Type 0 where
+  pub run : collect width [] (union l r) m₀ ≡ collect width kept (union x y) m
 
-pub merging : (x y : List ℕ) (width : ℕ) (m : Meter) (ids : List ℕ) → length ids ≡ 16 → Merging x y width m ids 0 0 0 m
-merging x y width m ids h = record { long = h; n_in = omega arith; a_in = omega arith; b_in = omega arith; run = refl }
+pub merging : (l r : List ℕ) (width : ℕ) (m : Meter) {kept : List ℕ} → kept ≡ [] → Merging l r width m kept l r m
+merging l r width m e = record { run = rw e }
 
 -- an id is taken only where there is room
-pub taken_fits : (width n : ℕ) (m : Meter) (mw me : ℕ) {r : Trial} {w e : ℕ} → tried r mw me ≡ take_one width n m → r ≡ Taken w e → n < 16
-taken_fits width n m mw me {r} {w} {e} h p =
-    let g : going true (meter w mw e me) ≡ take_one width n m = sym (ap (λ (r : Trial). tried r mw me) p) ∙ h in
-    let k : true ≡ leb (n + 1) (min width 16) = subst (Holds (λ t. t ≡ leb (n + 1) (min width 16))) (sym g) ((take_is width n).at m) in
+pub taken_fits : (width n : ℕ) (m : Meter) {m' : Meter} → going true m' ≡ take_one width n m → n < 16
+taken_fits width n m h =
+    let k : true ≡ leb (n + 1) (min width 16) = subst (Holds (λ t. t ≡ leb (n + 1) (min width 16))) (sym h) ((take_is width n).at m) in
     omega (arith, leb-true (n + 1) (min width 16) (sym k))
 
-module _ (x y : List ℕ) (width : ℕ) (m₀ : Meter) (ids : List ℕ) (n a b w mw e me : ℕ) (h : Merging x y width m₀ ids n a b (meter w mw e me)) where
-  kept_long : length (take n ids) ≡ n
-  kept_long = simp length-take (omega (arith, h.long, h.n_in))
-
-  pub merge_all : Facts x y a b End → going (some (take n ids)) (meter w mw e me) ≡ collect width [] (union x y) m₀
+module _ (l r : List ℕ) (width : ℕ) (m₀ : Meter) (kept x y : List ℕ) (m : Meter) (h : Merging l r width m₀ kept x y m) where
+  pub merge_all : None ≡ next_of x y → going (some kept) m ≡ collect width [] (union l r) m₀
   unfolding collect pure
-  merge_all f = rw (h.run, f)
+  merge_all f = rw (h.run, nothing_left x y f)
 
-  module _ {v a' b' : ℕ} (st : Stepped x y a b v a' b') {r : Trial} (t : tried r mw me ≡ take_one width n (meter w mw e me)) where
-    pub merge_stopped : {s : Stop} {w' e' : ℕ} → r ≡ trial.Stopped s w' e' → stopped s (meter w' mw e' me) ≡ collect width [] (union x y) m₀
+  module _ {v n : ℕ} (e : Some v ≡ next_of x y) (k : n ≡ length kept) where
+    pub merge_stopped : {s : Stop} {m' : Meter} → stopped s m' ≡ take_one width n m → stopped s m' ≡ collect width [] (union l r) m₀
+    unfolding collect
+    merge_stopped {s} {m'} t = rw (h.run, (stepped x y v e).union_is) (bind_stop (take_one width (length kept)) m _ {e = s} {t = m'} (rw (← k) t))
+
+    pub merge_none : {m' : Meter} → going false m' ≡ take_one width n m → going none m' ≡ collect width [] (union l r) m₀
+    unfolding collect
+    merge_none {m'} t = rw (h.run, (stepped x y v e).union_is) (bind_on (take_one width (length kept)) m _ {a = false} {t = m'} (rw (← k) t) (pure_is none _))
+
+    pub merge_more : {m' : Meter} {kept' x' y' : List ℕ} → going true m' ≡ take_one width n m → kept' ≡ kept ++ (v ∷ []) → x' ≡ past v x → y' ≡ past v y → Merging l r width m₀ kept' x' y' m'
     unfolding collect ◌>>=◌ after
-    merge_stopped p = rw (h.run, st.union_is, kept_long, ← t, p)
+    merge_more t p q q' = record { run = h.run ∙ rw ((stepped x y v e).union_is, ← k, ← t, p, q, q') }
 
-    pub merge_none : {w' e' : ℕ} → r ≡ Left w' e' → going none (meter w' mw e' me) ≡ collect width [] (union x y) m₀
-    unfolding collect ◌>>=◌ after pure
-    merge_none p = rw (h.run, st.union_is, kept_long, ← t, p)
-
-    pub merge_more : {w' e' : ℕ} → r ≡ Taken w' e' → Merging x y width m₀ (set ids n v) (n + 1) a' b' (meter w' mw e' me)
-    unfolding collect ◌>>=◌ after
-    merge_more p =
-        let k = taken_fits width n (meter w mw e me) mw me t p in
-        let g : take (n + 1) (set ids n v) ≡ take n ids ++ (v ∷ []) = rw (add-one, take-suc-set ids n v (omega (arith, h.long))) in
-        record {
-          long = simp length-set h.long;
-          n_in = omega arith;
-          a_in = st.a_in;
-          b_in = st.b_in;
-          run = h.run ∙ rw (st.union_is, kept_long, ← t, p, g);
-        }
+    pub merge_falls : {x' y' : List ℕ} → x' ≡ past v x → y' ≡ past v y → length x' + length y' < length x + length y
+    merge_falls q q' = rw (q, q') ((stepped x y v e).falls)

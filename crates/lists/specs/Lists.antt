@@ -1,30 +1,11 @@
 -- Lists of constant ids, strictly increasing: their union, whether one has an id, and the charge of their entries.
-use Rattle.std.specs.Prelude.{ℕ, zero, suc, ◌+◌, min, Bool, true, false, cond, List, [], ◌∷◌, ◌++◌, ltb, leb, eqb, length, get_or, drop}
+use Rattle.std.specs.Prelude.{ℕ, zero, suc, ◌+◌, min, Bool, true, false, cond, List, [], ◌∷◌, ◌++◌, ltb, leb, eqb, length, get_or}
 use Rattle.std.proofs.Math.Option.{Option, some, none}
 use Rattle.limits.specs.declared.Stop.{Stop}
 use Rattle.limits.specs.Metered.{Metered, pure, ◌>>=◌, ◌>>◌}
 use Rattle.limits.specs.declared.Meter.{Meter}
 use Rattle.limits.specs.Meter.{work, retain, release, holding}
-use Rattle.lists.specs.declared.Found.{Found}
-use Rattle.lists.specs.declared.Found.TheVariants.{Nothing, Id}
-use Rattle.lists.specs.declared.Next.{Next}
-use Rattle.lists.specs.declared.Next.TheVariants.{End, Take}
 use Rattle.search.specs.Seek.{found?, compareℕ, seek}
-
--- what stands at place i, from what is left there, and the next place
-abbrev pub head_of : ℕ → List ℕ → Found
-head_of i [] = Nothing
-head_of i (x ∷ l) = Id x (i + 1)
-
--- the first id of the union of what is left from the places a and b on, and the places after it
-abbrev pub step_of : ℕ → ℕ → Found → Found → Next
-step_of a b Nothing Nothing = End
-step_of a b Nothing (Id y b') = Take y a b'
-step_of a b (Id x a') Nothing = Take x a' b
-step_of a b (Id x a') (Id y b') = cond (ltb x y) (Take x a' b) (cond (ltb y x) (Take y a b') (Take x a' b'))
-
-unfoldable pub next_of : List ℕ → List ℕ → ℕ → ℕ → Next
-next_of x y a b = step_of a b (head_of a (drop a x)) (head_of b (drop b y))
 
 -- x, and behind it `rest`, after what comes before x of the other list
 abbrev pub mix : ℕ → (List ℕ → List ℕ) → List ℕ → List ℕ

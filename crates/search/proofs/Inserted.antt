@@ -13,7 +13,7 @@ use Rattle.integers.proofs.Stores.{sets_out}
 
 module _ {A : Type 0} where
   -- nothing is stored beyond the end
-  cut : (vs l : List A) (i : ℕ) → sets l i vs ≡ sets l i (take (length l - i) vs)
+  pub cut : (vs l : List A) (i : ℕ) → sets l i vs ≡ sets l i (take (length l - i) vs)
   cut [] l i = elim (length l - i) as (λ n. sets l i [] ≡ sets l i (take n [])) [ zero ↦ refl | suc n ↦ refl ]
   cut (a ∷ vs) l i = elim (dec_lt i (length l)) [
     | yes h ↦

@@ -1,2 +1,1 @@
 pub mod Seed
-pub mod Answers

@@ -3,279 +3,179 @@
 #![tactic(auto)]
 
 ghost use Rattle.std.specs.Prelude.{◌≡◌, ◌+◌, ◌≤◌, length};
+ghost use Rattle.limits.specs.Metered.{◌>>◌};
+ghost use Rattle.limits.specs.Refusal.{replied};
+ghost use Rattle.lists.specs.Ids.{seen};
 ghost use Rattle.lattice.specs.Value.{value_of};
-ghost use Rattle.seeds.specs.Seed.{loses, dropped, joined, seed, constant_value, seed_constant, sizes, spacious, tables, interval_tables, seed_value_call, seed_interval_call};
-ghost use Rattle.seeds.specs.Answers.{Makes, Seeds, Marked, SeedsEnds, on_tables, on_interval_tables};
+ghost use Rattle.thresholds.specs.Thresholds.{around};
+ghost use Rattle.store.specs.Calls.{marks, entering};
+ghost use Rattle.seeds.specs.Seed.{loses, joined, rows, seed, constant_value, seed_constant, sizes, spacious, tables, ends, seed_ends, interval_tables, seed_value_call, seed_interval_call};
 
 use interval::Interval;
-use lattice::{Abstract, Outcome};
-use limits::{Budget, Refusal, Resource};
-use store::{Done, Store};
-
-// A value with the budget after it. Where the outcome is a stop there is no value, and the field means nothing.
-#[derive(Clone, Copy)]
-pub struct Joined {
-    pub outcome: Outcome,
-    pub value: Abstract,
-    pub budget: Budget,
-}
+use lattice::Abstract;
+use limits::{Budget, Refusal, Resource, Stop};
+use store::Store;
 
 // Whether the list is lost on the way from one value to another.
 pub fn is_lost(old: Abstract, new: Abstract) -> bool
     ensures { result ≡ loses (value_of old).values (value_of new).values }
 {
-    if old.kept {
-        return !new.kept;
-    }
-    false
-}
-
-// What is left after a join: the old seed and the value are dropped.
-fn drop_both(budget: Budget, old: Abstract, value: Abstract, new: Abstract) -> Budget
-    ensures { result ≡ dropped (value_of old) (value_of value) (value_of new) budget }
-{
-    let held = rows::entries_of(old) + rows::entries_of(value);
-    if is_lost(old, new) {
-        let counted = budget.widen();
-        return counted.release(held);
-    }
-    budget.release(held)
+    old.kept && !new.kept
 }
 
 // The old seed joined with a value, which is dropped on every way out.
-fn join_seed(old: Abstract, value: Abstract, budget: Budget) -> Joined
-    ensures { Makes (joined (value_of old) (value_of value)) budget result }
+fn join_seed(old: Abstract, value: Abstract, budget: &mut Budget) -> Result<Abstract, Stop>
+    ensures { seen value_of result budget.new ≡ joined (value_of old) (value_of value) budget.old }
 {
-    let limits = budget.limits;
-    let statistics = budget.statistics;
-    let made = old.join(
-        value,
-        limits.width,
-        statistics.work,
-        limits.work,
-        statistics.entries,
-        limits.entries,
-    );
-    let outcome = made.outcome;
-    let new = made.value;
-    match outcome {
-        Outcome::Stopped(_) => {
-            let left = limits::release(made.entries, rows::entries_of(value));
-            Joined {
-                outcome,
-                value: new,
-                budget: budget.with_meter(made.work, left),
-            }
-        }
-        Outcome::Done => {
-            let paid = budget.with_meter(made.work, made.entries);
-            Joined {
-                outcome,
-                value: new,
-                budget: drop_both(paid, old, value, new),
-            }
-        }
+    let held = rows::entries_of(value);
+    let mut meter = budget.meter();
+    let answer = old.join(value, budget.limits.width, &mut meter);
+    let joined = meter.holding(held, answer);
+    budget.settle(meter);
+    let new = joined?;
+    if is_lost(old, new) {
+        budget.count_widened();
     }
+    budget.release_entries(rows::entries_of(old) + held);
+    Ok(new)
 }
 
 // A value becomes part of the seed of an argument.
-fn seed(store: Store, argument: usize, value: Abstract, seeds: &mut [u32]) -> Done
-    ensures { Seeds (seed argument (value_of value)) store seeds.old result seeds.new }
+fn seed(
+    store: &mut Store,
+    argument: usize,
+    value: Abstract,
+    seeds: &mut [u32],
+) -> Result<(), Refusal>
+    ensures { replied result (rows store.new seeds.new) ≡ seed argument (value_of value) (rows store.old seeds.old) }
 {
     let old = rows::abstract_at(seeds, argument);
-    let joined = join_seed(old, value, store.budget);
-    let outcome = joined.outcome;
-    let kept = store.with_budget(joined.budget);
-    match outcome {
-        Outcome::Stopped(stop) => Done::Refused(Refusal::Limit(stop), kept),
-        Outcome::Done => {
-            rows::put_abstract(seeds, argument, joined.value);
-            Done::Ok(kept)
-        }
-    }
+    let new = join_seed(old, value, &mut store.budget)?;
+    rows::put_abstract(seeds, argument, new);
+    Ok(())
 }
 
 // The value of a constant.
-fn constant_value(constants: &[u32], id: u16, budget: Budget) -> Joined
-    ensures { Makes (constant_value constants.now id) budget result }
+fn constant_value(constants: &[u32], id: u16, budget: &mut Budget) -> Result<Abstract, Stop>
+    ensures { seen value_of result budget.new ≡ constant_value constants.now id budget.old }
 {
-    let limits = budget.limits;
-    let statistics = budget.statistics;
-    let made = Abstract::constant(
-        id,
-        lattice::constant_at(constants, id),
-        limits.width,
-        statistics.work,
-        statistics.entries,
-        limits.entries,
-    );
-    let outcome = made.outcome;
-    let value = made.value;
-    Joined {
-        outcome,
-        value,
-        budget: budget.with_meter(made.work, made.entries),
-    }
+    let key = lattice::constant_at(constants, id);
+    let mut meter = budget.meter();
+    let value = Abstract::constant(id, key, budget.limits.width, &mut meter);
+    budget.settle(meter);
+    value
 }
 
 // A constant becomes part of the seed of an argument.
 fn seed_constant(
-    store: Store,
+    store: &mut Store,
     argument: usize,
     id: u16,
     constants: &[u32],
     seeds: &mut [u32],
-) -> Done
-    ensures { Seeds (seed_constant constants.now argument id) store seeds.old result seeds.new }
+) -> Result<(), Refusal>
+    ensures { replied result (rows store.new seeds.new) ≡ seed_constant constants.now argument id (rows store.old seeds.old) }
 {
-    let made = constant_value(constants, id, store.budget);
-    let outcome = made.outcome;
-    let kept = store.with_budget(made.budget);
-    match outcome {
-        Outcome::Stopped(stop) => Done::Refused(Refusal::Limit(stop), kept),
-        Outcome::Done => seed(kept, argument, made.value, seeds),
-    }
+    let value = constant_value(constants, id, &mut store.budget)?;
+    seed(store, argument, value, seeds)
 }
 
 // The sizes of the tables that both calls are lent.
-fn sized(seeds: usize, records: usize) -> bool
+fn is_sized(seeds: usize, records: usize) -> bool
     ensures { result ≡ sizes seeds records }
 {
-    if seeds != rows::ROW * 256 {
-        return false;
-    }
-    records == 2 * provenance::RECORDS
+    seeds == rows::ROW * 256 && records == 2 * provenance::RECORDS
 }
 
 // Whether the tables have the rows that the header counts, and room for what a call records.
-fn room(store: Store) -> bool
-    ensures { result ≡ spacious store }
+fn has_room(store: &Store) -> bool
+    ensures { result ≡ spacious store.now }
 {
-    let counts = store.counts;
-    let context = store.context;
-    if 256 < counts.positions {
-        return false;
-    }
-    provenance::is_recordable(context, counts.provenance)
+    store.counts.positions <= 256
+        && provenance::is_recordable(store.context, store.counts.provenance)
 }
 
 // A constant is seeded to an argument.
+#[tactic(auto, unfolding(crate::specs::Seed::seed_value_call))]
 pub fn seed_value(
-    store: Store,
+    store: &mut Store,
     argument: u64,
     value: u64,
     constants: &[u32],
     seeds: &mut [u32],
     records: &mut [u32],
-) -> Done
-    ensures { on_tables result seeds.new records.new ≡ seed_value_call constants.now argument value (tables store seeds.old records.old) }
+) -> Result<(), Refusal>
+    ensures { replied result (tables store.new seeds.new records.new) ≡ seed_value_call constants.now argument value (tables store.old seeds.old records.old) }
 {
-    let phase = store.phase;
-    let counts = store.counts;
-    if constants.len() != 2048 {
-        return Done::Refused(Refusal::Shape, store);
+    if constants.len() != 2048 || !is_sized(seeds.len(), records.len()) {
+        return Err(Refusal::Shape);
     }
-    if !sized(seeds.len(), records.len()) {
-        return Done::Refused(Refusal::Shape, store);
+    if !store.phase.admits() {
+        return Err(Refusal::Closed);
     }
-    if !phase.admits() {
-        return Done::Refused(Refusal::Closed, store);
+    if 1024 < store.counts.constants || !has_room(store) {
+        return Err(Refusal::Full);
     }
-    if 1024 < counts.constants {
-        return Done::Refused(Refusal::Full, store);
+    store.pay(Resource::Work, 1)?;
+    if store.counts.constants as u64 <= value {
+        return Err(Refusal::Missing);
     }
-    if !room(store) {
-        return Done::Refused(Refusal::Full, store);
-    }
-    match store.charge(Resource::Work, 1) {
-        Done::Refused(refusal, kept) => Done::Refused(refusal, kept),
-        Done::Ok(paid) => {
-            if counts.constants as u64 <= value {
-                return Done::Refused(Refusal::Missing, paid);
-            }
-            match provenance::provenance(paid, argument, records) {
-                Done::Refused(refusal, kept) => Done::Refused(refusal, kept),
-                Done::Ok(recorded) => {
-                    seed_constant(recorded, argument as usize, value as u16, constants, seeds)
-                }
-            }
-        }
-    }
+    provenance::provenance(store, argument, records)?;
+    seed_constant(store, argument as usize, value as u16, constants, seeds)
 }
 
 // The thresholds of an interval's ends.
-fn mark_ends(store: Store, low: i32, high: i32, thresholds: &mut [i32]) -> Done
-    requires { store.counts.thresholds + 6 ≤ length thresholds.old }
-    ensures { Marked low high store thresholds.old result thresholds.new }
+fn mark_ends(store: &mut Store, low: i32, high: i32, thresholds: &mut [i32]) -> Result<(), Refusal>
+    requires { store.old.counts.thresholds + 6 ≤ length thresholds.old }
+    ensures { replied result (marks store.new thresholds.new) ≡ (entering (around low) >> entering (around high)) (marks store.old thresholds.old) }
 {
-    match store.enter_around(low, thresholds) {
-        Done::Refused(refusal, kept) => Done::Refused(refusal, kept),
-        Done::Ok(marked) => marked.enter_around(high, thresholds),
-    }
+    store.enter(low, thresholds)?;
+    store.enter(high, thresholds)
 }
 
 // An interval becomes part of the seed of an argument, its thresholds first.
 fn seed_ends(
-    store: Store,
+    store: &mut Store,
     argument: usize,
     low: i32,
     high: i32,
     seeds: &mut [u32],
     thresholds: &mut [i32],
-) -> Done
-    requires { store.counts.thresholds + 6 ≤ length thresholds.old }
-    ensures { SeedsEnds argument low high store seeds.old thresholds.old result seeds.new thresholds.new }
+) -> Result<(), Refusal>
+    requires { store.old.counts.thresholds + 6 ≤ length thresholds.old }
+    ensures { replied result (ends store.new seeds.new thresholds.new) ≡ seed_ends argument low high (ends store.old seeds.old thresholds.old) }
 {
-    match mark_ends(store, low, high, thresholds) {
-        Done::Refused(refusal, kept) => Done::Refused(refusal, kept),
-        Done::Ok(marked) => {
-            let value = Abstract::numeric(Interval::Bounded { low, high });
-            seed(marked, argument, value, seeds)
-        }
-    }
+    mark_ends(store, low, high, thresholds)?;
+    let value = Abstract::numeric(Interval::Bounded { low, high });
+    seed(store, argument, value, seeds)
 }
 
 // An interval is seeded to an argument.
+#[tactic(auto, unfolding(crate::specs::Seed::seed_interval_call))]
 pub fn seed_interval(
-    store: Store,
+    store: &mut Store,
     argument: u64,
     low: i32,
     high: i32,
     seeds: &mut [u32],
     records: &mut [u32],
     thresholds: &mut [i32],
-) -> Done
-    ensures { on_interval_tables result seeds.new records.new thresholds.new ≡ seed_interval_call argument low high (interval_tables store seeds.old records.old thresholds.old) }
+) -> Result<(), Refusal>
+    ensures { replied result (interval_tables store.new seeds.new records.new thresholds.new) ≡ seed_interval_call argument low high (interval_tables store.old seeds.old records.old thresholds.old) }
 {
-    let phase = store.phase;
-    let counts = store.counts;
-    if thresholds.len() != 4096 {
-        return Done::Refused(Refusal::Shape, store);
+    if thresholds.len() != 4096 || !is_sized(seeds.len(), records.len()) {
+        return Err(Refusal::Shape);
     }
-    if !sized(seeds.len(), records.len()) {
-        return Done::Refused(Refusal::Shape, store);
+    if !store.phase.admits() {
+        return Err(Refusal::Closed);
     }
-    if !phase.admits() {
-        return Done::Refused(Refusal::Closed, store);
+    if 4088 < store.counts.thresholds || !has_room(store) {
+        return Err(Refusal::Full);
     }
-    if 4088 < counts.thresholds {
-        return Done::Refused(Refusal::Full, store);
+    store.pay(Resource::Work, 1)?;
+    if high < low {
+        return Err(Refusal::Descending);
     }
-    if !room(store) {
-        return Done::Refused(Refusal::Full, store);
-    }
-    match store.charge(Resource::Work, 1) {
-        Done::Refused(refusal, kept) => Done::Refused(refusal, kept),
-        Done::Ok(paid) => {
-            if high < low {
-                return Done::Refused(Refusal::Descending, paid);
-            }
-            match provenance::provenance(paid, argument, records) {
-                Done::Refused(refusal, kept) => Done::Refused(refusal, kept),
-                Done::Ok(recorded) => {
-                    seed_ends(recorded, argument as usize, low, high, seeds, thresholds)
-                }
-            }
-        }
-    }
+    provenance::provenance(store, argument, records)?;
+    seed_ends(store, argument as usize, low, high, seeds, thresholds)
 }

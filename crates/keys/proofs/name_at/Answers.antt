@@ -1,11 +1,7 @@
 -- `keys::name_at` meets its contract.
-use Rattle.keys.proofs.CodeLaws.{name_beyond, name_part}
+use Rattle.std.proofs.Common.{arith}
+use Rattle.keys.proofs.CodeLaws.{name_part}
 use Rattle.keys.proofs.name_at.Goals as goal
 
-pub returns-then-size-id : goal.returns-then-size-id
-returns-then-size-id c = let a = c.args in name_beyond a.names.now a.id a.len c.if-size-id.true
-
 pub returns : goal.returns
-returns c =
-    let a = c.args in
-    name_part a.names.now a.id a.len c.least.ensures c.least-n.ensures
+returns c = name_part _ _ _ (omega (arith, c.saturating_mul.ensures, c.min-start.ensures)) _ _ (rw (c.min-2.ensures, c.min.ensures))

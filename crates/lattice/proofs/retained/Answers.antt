@@ -1,13 +1,17 @@
 -- `lattice::retained` meets its contract.
-use Rattle.limits.proofs.CodeLaws.{retain_paid, retain_stopped}
+use mathlib.Core.Path.{ap, ◌∙◌}
+use mathlib.Core.List.{List, [], ◌∷◌, ◌++◌}
+use Rattle.lists.proofs.Seen.{seen_exits}
+use Rattle.limits.proofs.Answering.{went, broke}
+use Rattle.lattice.specs.Value.{value_of}
 use Rattle.lattice.proofs.CodeLaws.{retained_none, retained_stopped, retained_one}
 use Rattle.lattice.proofs.retained.Goals as goal
 
 pub returns-then-width-eq0 : goal.returns-then-width-eq0
-returns-then-width-eq0 c = retained_none c.args.id c.args.bound c.args.width c.args.work c.args.entries c.args.max_entries c.if-width-eq0.true c.unlisted-value.ensures c.made_of.ensures
+returns-then-width-eq0 c = retained_none c.args.id c.args.bound c.args.width c.args.meter.now c.if-width-eq0.true c.unlisted.ensures
 
-pub returns-in-Stopped : goal.returns-in-Stopped
-returns-in-Stopped c = retained_stopped c.args.id c.args.bound c.args.width c.args.work c.args.entries c.args.max_entries c.if-width-eq0.false (λ mw. retain_stopped _ mw _ _ 1 c.charge.ensures c.in-Stopped.is) c.stopped_at.ensures
+pub returns-in_err-retain : goal.returns-in_err-retain
+returns-in_err-retain c = seen_exits value_of c.from_residual.result c.from_residual.ensures.1 (retained_stopped c.args.id c.args.bound c.args.width c.args.meter.now c.if-width-eq0.false (broke c.retain.ensures c.in_err-retain.was))
 
-pub returns-in-Paid : goal.returns-in-Paid
-returns-in-Paid c = retained_one c.args.id c.args.bound c.args.width c.args.work c.args.entries c.args.max_entries c.if-width-eq0.false (λ mw. retain_paid _ mw _ _ 1 c.charge.ensures c.in-Paid.is) c.listed.ensures c.made_of-in-Paid.ensures
+pub returns : goal.returns
+returns c = retained_one c.args.id c.args.bound c.args.width c.args.meter.now c.if-width-eq0.false (went c.retain.ensures c.in_ok-retain.was) (c.push.ensures ∙ ap (λ l. l ++ (c.args.id ∷ [])) c.new-list.ensures) c.listed.ensures

@@ -1,9 +1,10 @@
 -- `lists::retain_one` meets its contract.
-use Rattle.lists.proofs.CodeLaws.{pushes_taken, pushes_stopped}
+use mathlib.Core.Path.{◌∙◌}
+use Rattle.limits.specs.Meter.{retain}
+use Rattle.limits.proofs.Answering.{held_is}
+use Rattle.lists.specs.Lists.{push}
 use Rattle.lists.proofs.retain_one.Goals as goal
 
-pub returns-in-Paid : goal.returns-in-Paid
-returns-in-Paid c = pushes_taken c.args.held c.args.work c.args.entries c.args.max_entries c.charge.ensures c.in-Paid.is
-
-pub returns-in-Stopped : goal.returns-in-Stopped
-returns-in-Stopped c = pushes_stopped c.args.held c.args.work c.args.entries c.args.max_entries c.charge.ensures c.in-Stopped.is c.release.ensures
+pub returns : goal.returns
+unfolding push
+returns c = c.holding.ensures ∙ held_is _ (retain 1) _ _ _ c.retain-charge.ensures

@@ -1,17 +1,21 @@
 -- `lattice::Abstract::copied` meets its contract.
-use mathlib.Core.Option.{some, none}
-use mathlib.Core.Bool.{Bool, cond}
-use mathlib.Core.Path.{refl, ap}
-use lib.ListN.{take}
-use Rattle.limits.proofs.CodeLaws.{work_paid, work_stopped}
-use Rattle.lattice.proofs.CodeLaws.{is_made, is_stopped, copied_stopped, copied_on, copied_listed, copied_unlisted}
+use Rattle.lists.proofs.Seen.{seen_exits}
+use Rattle.limits.proofs.Answering.{went, broke}
+use Rattle.lattice.specs.Value.{value_of}
+use Rattle.lattice.proofs.CodeLaws.{copied_stopped, copied_none, list_stopped, entries_stopped, list_copied}
 use Rattle.lattice.proofs.Abstract.copied.Goals as goal
 
-pub returns-then-self : goal.returns-then-self
-returns-then-self c = copied_on _ _ (work_paid _ _ _ _ 1 c.charge.ensures c.in-Paid.is) (copied_listed _ _ (ap (λ (t : Bool). cond t (some (take c.args.self.len c.args.self.ids)) none) c.if-self.true) c.copied_list.ensures)
+pub returns-in_err-work : goal.returns-in_err-work
+returns-in_err-work c = seen_exits value_of c.from_residual.result c.from_residual.ensures.1 (copied_stopped _ _ (broke c.work.ensures c.in_err-work.was))
 
-pub returns-in-Stopped : goal.returns-in-Stopped
-returns-in-Stopped c = is_stopped _ _ c.stopped_at.ensures (copied_stopped _ _ (work_stopped _ _ _ _ 1 c.charge.ensures c.in-Stopped.is))
+pub returns-in_err-work-2 : goal.returns-in_err-work-2
+returns-in_err-work-2 c = seen_exits value_of c.from_residual-in_err-work-2.result c.from_residual-in_err-work-2.ensures.1 (list_stopped _ _ (went c.work.ensures c.in_ok-work.was) c.in-Some.ensures.list (broke c.work-in-Some.ensures c.in_err-work-2.was))
 
-pub returns-else-self : goal.returns-else-self
-returns-else-self c = is_made _ _ c.made_of.ensures refl (copied_on _ _ (work_paid _ _ _ _ 1 c.charge.ensures c.in-Paid.is) (copied_unlisted _ _ (ap (λ (t : Bool). cond t (some (take c.args.self.len c.args.self.ids)) none) c.if-self.false)))
+pub returns-in_err-retain_all : goal.returns-in_err-retain_all
+returns-in_err-retain_all c = seen_exits value_of c.from_residual-in_err-retain_all.result c.from_residual-in_err-retain_all.ensures.1 (entries_stopped _ _ (went c.work.ensures c.in_ok-work.was) c.in-Some.ensures.list (went c.work-in-Some.ensures c.in_ok-work-2.was) (broke c.retain_all.ensures c.in_err-retain_all.was))
+
+pub returns-in_ok-retain_all : goal.returns-in_ok-retain_all
+returns-in_ok-retain_all c = list_copied _ _ (went c.work.ensures c.in_ok-work.was) c.in-Some.ensures.list (went c.work-in-Some.ensures c.in_ok-work-2.was) (went c.retain_all.ensures c.in_ok-retain_all.was)
+
+pub returns-in_default : goal.returns-in_default
+returns-in_default c = copied_none _ _ (went c.work.ensures c.in_ok-work.was) c.in_default.ensures.list

@@ -1,20 +1,20 @@
 -- `lattice::Abstract::join` meets its contract.
-use mathlib.Core.Option.{some, none}
-use mathlib.Core.Bool.{Bool, cond}
-use mathlib.Core.Path.{ap}
-use lib.ListN.{take}
-use Rattle.limits.proofs.CodeLaws.{work_paid, work_stopped}
-use Rattle.lattice.proofs.CodeLaws.{is_made, is_stopped, join_stopped, join_both, join_left, join_right}
+use Rattle.lists.proofs.Seen.{seen_exits}
+use Rattle.limits.proofs.Answering.{went, broke}
+use Rattle.lattice.specs.Value.{value_of}
+use Rattle.lattice.proofs.CodeLaws.{first_is, join_stopped, join_on, join_left, join_right}
+use Rattle.lattice.proofs.Abstract.join.Goals.{in_default-via-in-Some+in_default, in_default-via-in_default}
 use Rattle.lattice.proofs.Abstract.join.Goals as goal
 
-pub returns-then-other : goal.returns-then-other
-returns-then-other c = join_both _ _ _ _ (work_paid _ _ _ _ 1 c.charge.ensures c.in-Paid.is) c.hull-bound.ensures c.or-reason.ensures (ap (λ (t : Bool). cond t (some (take c.args.self.len c.args.self.ids)) none) c.if-self.true) (ap (λ (t : Bool). cond t (some (take c.args.other.len c.args.other.ids)) none) c.if-other.true) c.join_lists.ensures
+pub returns-in_err-work : goal.returns-in_err-work
+returns-in_err-work c = seen_exits value_of c.from_residual.result c.from_residual.ensures.1 (join_stopped _ _ _ _ (broke c.work.ensures c.in_err-work.was))
 
-pub returns-then-self : goal.returns-then-self
-returns-then-self c = is_made _ _ c.made_of.ensures c.unlisted.ensures (join_right _ _ _ _ (work_paid _ _ _ _ 1 c.charge.ensures c.in-Paid.is) c.hull-bound.ensures c.or-reason.ensures (ap (λ (t : Bool). cond t (some (take c.args.self.len c.args.self.ids)) none) c.if-self.true) (ap (λ (t : Bool). cond t (some (take c.args.other.len c.args.other.ids)) none) c.if-other.false))
+pub returns-in-Some-Some : goal.returns-in-Some-Some
+returns-in-Some-Some c = join_on _ _ _ _ (went c.work.ensures c.in_ok-work.was) c.hull-bound.ensures (first_is c.args.self.reason c.args.other.reason c.or-reason.ensures) c.in-Some-Some.ensures.list c.in-Some-Some.ensures'.list c.join_lists.ensures
 
-pub returns-in-Stopped : goal.returns-in-Stopped
-returns-in-Stopped c = is_stopped _ _ c.stopped_at.ensures (join_stopped _ _ _ _ (work_stopped _ _ _ _ 1 c.charge.ensures c.in-Stopped.is))
-
-pub returns-else-self : goal.returns-else-self
-returns-else-self c = is_made _ _ c.made_of-in-Paid.ensures c.unlisted-in-Paid.ensures (join_left _ _ _ _ (work_paid _ _ _ _ 1 c.charge.ensures c.in-Paid.is) c.hull-bound.ensures c.or-reason.ensures (ap (λ (t : Bool). cond t (some (take c.args.self.len c.args.self.ids)) none) c.if-self.false))
+pub returns-in_default : goal.returns-in_default
+returns-in_default c =
+    elim c.in_default.branch [
+      in_default-via-in-Some+in_default w ↦ join_right _ _ _ _ (went c.work.ensures c.in_ok-work.was) c.hull-bound.ensures (first_is c.args.self.reason c.args.other.reason c.or-reason.ensures) w.in_default.ensures.list w.in_default.ensures'.list c.unlisted.ensures
+    | in_default-via-in_default w ↦ join_left _ _ _ _ (went c.work.ensures c.in_ok-work.was) c.hull-bound.ensures (first_is c.args.self.reason c.args.other.reason c.or-reason.ensures) w.in_default.ensures.list c.unlisted.ensures
+    ]

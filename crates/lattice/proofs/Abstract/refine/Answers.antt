@@ -1,6 +1,9 @@
 -- `lattice::Abstract::refine` meets its contract.
-use Rattle.lattice.proofs.CodeLaws.{refine_is}
+use mathlib.Core.Path.{◌∙◌, ap}
+use Rattle.lattice.specs.Value.{value_of}
+use Rattle.lattice.specs.Lattice.{meet, refine}
 use Rattle.lattice.proofs.Abstract.refine.Goals as goal
 
 pub returns : goal.returns
-returns c = refine_is _ _ _ c.numeric-other.ensures _ c.meet.ensures
+unfolding refine
+returns c = c.meet.ensures ∙ ap (λ n. meet c.args.constants.now (value_of c.args.self) n c.args.meter.now) c.numeric.ensures

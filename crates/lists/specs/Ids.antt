@@ -1,0 +1,30 @@
+-- A list as it is made, and the next step of a union: the ids of the code's own records.
+use Rattle.std.specs.Prelude.{ℕ, min, cond, List, [], ◌∷◌, eqb, take, Option, Some, None, Result, Ok, Err}
+use Rattle.std.proofs.Math.Option.{some, none}
+use Rattle.std.proofs.Math.Option as math
+use Rattle.limits.specs.Metered.{Run, going, stopped}
+use Rattle.lists.specs.declared.ids.Ids.{Ids}
+
+abbrev pub ids_of : Ids → List ℕ
+ids_of l = take l.len l.ids
+
+-- the first id of the union of two lists
+abbrev pub next_of : List ℕ → List ℕ → Option ℕ
+next_of [] [] = None
+next_of [] (y ∷ ys) = Some y
+next_of (x ∷ xs) [] = Some x
+next_of (x ∷ xs) (y ∷ ys) = Some (min x y)
+
+-- what is left of a list once its first id is taken, if it is this one
+abbrev pub past : ℕ → List ℕ → List ℕ
+past i [] = []
+past i (x ∷ xs) = cond (eqb x i) xs (x ∷ xs)
+
+-- the code's answer and the state that it leaves, as what the computation gives, where the code's value stands for `of` it
+abbrev pub seen : {E S A B : Type 0} → (A → B) → Result A E → S → Run E S B
+seen of (Ok a) s = going (of a) s
+seen of (Err e) s = stopped e s
+
+abbrev pub merged : Option Ids → math.Option (List ℕ)
+merged None = none
+merged (Some l) = some (ids_of l)
