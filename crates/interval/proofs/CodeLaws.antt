@@ -1,7 +1,7 @@
 -- What the code's answers are, over plain variables.
 use native.Mathlib.Omega.{arith}
 use mathlib.Core.Path.{◌≡◌, refl, ap₂, ◌∙◌}
-use mathlib.Core.Bool.{true, false}
+use mathlib.Core.Bool.{true}
 use lib.IntN.{ℤ}
 use lib.Signed.{lt_z}
 use Rattle.std.specs.Int.{int_min, int_max}

@@ -1,5 +1,5 @@
 -- What the code of widening answers is what the definitions say, over plain variables.
-use Prim.Native.Nat.{ℕ, suc, ◌+◌, ◌*◌, ◌≤◌, ◌<◌}
+use Prim.Native.Nat.{ℕ, ◌+◌, ◌*◌, ◌≤◌, ◌<◌}
 use native.Mathlib.Omega.{arith}
 use native.Mathlib.Numerals.{add-one}
 use mathlib.Core.Path.{◌≡◌, refl, ap, ◌∙◌}
@@ -11,15 +11,15 @@ use lib.ListN.{length, get_or, set}
 use Rattle.std.specs.List.{push}
 use Rattle.std.specs.Prelude.{Some, None}
 use Rattle.limits.specs.declared.Stop.{Stop}
-use Rattle.limits.specs.Metered.{Run, Metered, going, stopped, pure, ◌>>◌}
+use Rattle.limits.specs.Metered.{Metered, going, stopped, pure, ◌>>◌}
 use Rattle.limits.specs.declared.Meter.{Meter}
 use Rattle.limits.specs.Meter.{work}
 use Rattle.limits.proofs.Monad.{bind_stop, bind_on, pure_is}
-use Rattle.limits.proofs.Onward.{Onward, onward_begins, onward_ends, onward_yes, onward_no, then_stops, then_goes}
+use Rattle.limits.proofs.Onward.{Onward, onward_ends, onward_yes, onward_no, then_stops, then_goes}
 use Rattle.interval.specs.declared.Interval.{Interval}
 use Rattle.interval.specs.Interval.{endpoints_of}
 use Rattle.widening.specs.declared.Growth.{Growth}
-use Rattle.widening.specs.Widening.{growth, Side, side, Wide, wide, nearest, grow, widen_low, widen_high, with_ends, widen, growth_at, put_growth, no_growth}
+use Rattle.widening.specs.Widening.{growth, Side, side, wide, nearest, grow, widen_low, widen_high, with_ends, widen, growth_at, put_growth, no_growth}
 
 -- ---- growth in its cells
 

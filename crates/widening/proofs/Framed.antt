@@ -8,7 +8,6 @@ use lib.Dec.{leb}
 use lib.Signed.{le_z}
 use Rattle.std.specs.Prelude.{Option, Some, None}
 use Rattle.limits.specs.declared.Stop.{Stop}
-use Rattle.limits.specs.declared.Charged.{Charged}
 use Rattle.limits.specs.declared.Charged.TheVariants.{Paid, Stopped}
 use Rattle.limits.specs.declared.Resource.TheVariants.{Work}
 use Rattle.limits.specs.Charge.{charge_of, stop_of}
@@ -18,10 +17,9 @@ use Rattle.limits.specs.Meter.{meter, work, charged, with_work}
 use Rattle.interval.specs.declared.Interval.{Interval}
 use Rattle.interval.specs.Interval.{endpoints_of}
 use Rattle.widening.specs.declared.Growth.{Growth}
-use Rattle.widening.specs.declared.bridge.Widened.{Widened}
 use Rattle.widening.specs.declared.bridge.Widened.TheVariants.{Into}
 use Rattle.widening.specs.declared.bridge.Widened.TheVariants as widened
-use Rattle.widening.specs.Widening.{Side, side, Wide, wide, nearest, below, above, grow, widen_low, widen_high, widen_ends, widen}
+use Rattle.widening.specs.Widening.{Wide, nearest, below, above, grow, widen_low, widen_high, widen_ends, widen}
 use Rattle.widening.specs.Answers.{Widens}
 
 module _ {A : Type 0} where

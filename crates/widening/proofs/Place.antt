@@ -2,7 +2,7 @@
 use Prim.Native.Nat.{ℕ, suc, ◌+◌, ◌≤◌, ◌<◌}
 use native.Mathlib.Omega.{arith}
 use native.Mathlib.Numerals.{add-one}
-use mathlib.Core.Path.{◌≡◌, refl, ap, ◌∙◌}
+use mathlib.Core.Path.{◌≡◌, refl, ◌∙◌}
 use mathlib.Core.Bool.{Bool, true, false, cond, not}
 use mathlib.Core.List.{List, [], ◌∷◌}
 use lib.IntN.{ℤ}
@@ -13,7 +13,7 @@ use lib.Dec.{ltb}
 use Rattle.std.specs.List.{position_or_len}
 use Rattle.std.specs.Prelude.{Option, Some, None, unwrap_or}
 use Rattle.limits.specs.declared.Stop.{Stop}
-use Rattle.limits.specs.Metered.{Run, going, stopped, pure, ◌>>◌}
+use Rattle.limits.specs.Metered.{going, stopped, pure, ◌>>◌}
 use Rattle.limits.specs.declared.Meter.{Meter}
 use Rattle.limits.specs.Meter.{work, units}
 use Rattle.limits.proofs.Monad.{then_on, then_stop, pure_is}

@@ -1,10 +1,9 @@
 -- `widening::threshold_below` meets its contract.
-use Rattle.std.proofs.Common.{arith, rules, SFits, w32}
+use Rattle.std.proofs.Common.{rules, SFits, w32}
 use Rattle.std.proofs.lemmas.Int.{to_z-of_z}
 use lib.Signed.{le_z}
 use mathlib.Core.List.{reverse}
 use Rattle.limits.proofs.Answering.{went, broke, exits}
-use Rattle.limits.proofs.Onward.{onward_begins}
 use Rattle.widening.specs.Widening.{below}
 use Rattle.widening.proofs.CodeLaws.{seeking_none, seeking_stops, seeking_hits, seeking_passes, last_first, all_seen}
 use Rattle.widening.proofs.threshold_below.Goals as goal
