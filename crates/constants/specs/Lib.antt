@@ -1,2 +1,1 @@
 pub mod Constant
-pub mod Answers

@@ -1,9 +1,14 @@
 -- `constants::pay` meets its contract.
-use Rattle.constants.proofs.CodeLaws.{cost_stopped, cost_paid}
+use Rattle.limits.specs.Budget.{work, links}
+use Rattle.limits.proofs.Answering.{exits}
+use Rattle.limits.proofs.Monad.{then_stop, then_on}
+use Rattle.constants.specs.Constant.{cost}
 use Rattle.constants.proofs.pay.Goals as goal
 
-pub returns-in-Stopped : goal.returns-in-Stopped
-returns-in-Stopped c = cost_stopped _ _ c.charge.ensures c.in-Stopped.is
+pub returns-in_err-pay : goal.returns-in_err-pay
+unfolding cost
+returns-in_err-pay c = exits _ c.from_residual.ensures.1 (then_stop (links 1) _ (work _) c.in_err-pay.ensures)
 
-pub returns-in-Paid : goal.returns-in-Paid
-returns-in-Paid c = cost_paid _ _ c.charge.ensures c.charge-in-Paid.result c.in-Paid.is c.charge-in-Paid.ensures
+pub returns : goal.returns
+unfolding cost
+returns c = then_on (links 1) _ (work _) c.in_ok-pay.ensures c.pay-2.ensures
