@@ -20,7 +20,8 @@ use Rattle.store.specs.declared.Phase.TheVariants.{Open}
 use Rattle.store.specs.Store.{with_predicate, empty}
 use Rattle.store.specs.Calls.{bottoms}
 use Rattle.seeds.specs.Seed.{IntervalTables, interval_tables, seed_interval_call}
-use Rattle.affine.specs.Affine.{solved_reversed}
+use Rattle.affine.specs.declared.Shape.TheVariants.{Reversed}
+use Rattle.affine.specs.Affine.{solved}
 use Rattle.widening.specs.Widening.{growth, Wide, wide, widen}
 
 infix 5 ◌is◌
@@ -103,5 +104,5 @@ table =
     -- K9 "one growth: 0..3"
     (widening (0 ‥ 2) (0 ‥ 3) 1 is some (wide (0 ‥ 3) (growth 0 2))) ∷
     -- K10 "10 − slot in 0..4: slot 6..10"
-    (solved_reversed (pos 10) (endpoints_of (0 ‥ 4)) is 6 ‥ 10) ∷
+    (solved Reversed (pos 10) (endpoints_of (0 ‥ 4)) is 6 ‥ 10) ∷
     []

@@ -4,6 +4,7 @@ use native.Mathlib.Omega.{arith}
 use mathlib.Core.Path.{◌≡◌, refl, sym, ap, ap₂, ◌∙◌}
 use mathlib.Core.Bool.{Bool, true, false, ◌&&◌, not}
 use mathlib.Core.List.{List}
+use Rattle.std.specs.Prelude.{Option, Some, None}
 use lib.IntN.{ℤ}
 use mir.Syntax.{w32}
 use mir.Val.{SFits, to_z, of_z}
@@ -49,10 +50,9 @@ use Rattle.evaluation.specs.Evaluation.{Input, known_identity, both}
 use Rattle.evaluation.specs.Answers.{sees_both, pair_to}
 use Rattle.evaluation.proofs.Operands.{Sights, sights, pair_halted}
 use Rattle.affine.specs.declared.Affine.{Affine}
-use Rattle.affine.specs.declared.Affine.TheVariants.{None, Sum, Difference, Reversed}
 use Rattle.guards.specs.declared.Refined.{Refined}
 use Rattle.guards.specs.declared.Refined.TheVariants.{Done, Stopped}
-use Rattle.affine.specs.Affine.{flipped_of, restricted, neq?, affine, solved_sum, solved_difference, solved_reversed}
+use Rattle.affine.specs.Affine.{flipped_of, restricted, neq?, affine, solved}
 use Rattle.guards.specs.Guards.{Local, local, paying, in_slots, in_notes, dropping, holding_produced, narrow_slot, narrow_known, refine_operand, refine_both, narrowing?, compared, with_both, member, guard_one, guard_step, guard_all, guard}
 use Rattle.guards.specs.Answers.{bare, refined, Refines, Members, Drops}
 
@@ -72,19 +72,13 @@ module _ (m : Metered Stop Local ℕ) (f : ℕ → Metered Stop Local ℕ) {at :
 
 -- ---- a slot
 
-module _ (constants : List ℕ) {shape : Affine} (x : Interval) (s : Slots) where
-  pub narrow_none : shape ≡ None → going tt s ≡ narrow_slot constants shape x s
-  narrow_none p = pure_is tt s ∙ ap (λ (a : Affine). narrow_slot constants a x s) (sym p)
+module _ (constants : List ℕ) {affine : Option Affine} (x : Interval) (s : Slots) where
+  pub narrow_none : affine ≡ None → going tt s ≡ narrow_slot constants affine x s
+  narrow_none p = pure_is tt s ∙ ap (λ (o : Option Affine). narrow_slot constants o x s) (sym p)
 
-  module _ {slot : ℕ} {c : ℤ} (f : SFits w32 c) {i : Interval} {y : Run Stop Slots (Unit {0})} where
-    pub narrow_sum : shape ≡ Sum slot c → i ≡ solved_sum (to_z w32 (of_z w32 c)) (endpoints_of x) → y ≡ refine_into constants slot i s → y ≡ narrow_slot constants shape x s
-    narrow_sum p q h = h ∙ ap (λ (j : Interval). refine_into constants slot j s) (rw (to_z-of_z f) at q) ∙ ap (λ (a : Affine). narrow_slot constants a x s) (sym p)
-
-    pub narrow_difference : shape ≡ Difference slot c → i ≡ solved_difference (to_z w32 (of_z w32 c)) (endpoints_of x) → y ≡ refine_into constants slot i s → y ≡ narrow_slot constants shape x s
-    narrow_difference p q h = h ∙ ap (λ (j : Interval). refine_into constants slot j s) (rw (to_z-of_z f) at q) ∙ ap (λ (a : Affine). narrow_slot constants a x s) (sym p)
-
-    pub narrow_reversed : shape ≡ Reversed slot c → i ≡ solved_reversed (to_z w32 (of_z w32 c)) (endpoints_of x) → y ≡ refine_into constants slot i s → y ≡ narrow_slot constants shape x s
-    narrow_reversed p q h = h ∙ ap (λ (j : Interval). refine_into constants slot j s) (rw (to_z-of_z f) at q) ∙ ap (λ (a : Affine). narrow_slot constants a x s) (sym p)
+  pub narrow_some : {a : Affine} {i : Interval} {y : Run Stop Slots (Unit {0})} → affine ≡ Some a → i ≡ solved a.shape a.constant (endpoints_of x) →
+      y ≡ refine_into constants a.slot i s → y ≡ narrow_slot constants affine x s
+  narrow_some {a} p q h = h ∙ ap (λ (j : Interval). refine_into constants a.slot j s) q ∙ ap (λ (o : Option Affine). narrow_slot constants o x s) (sym p)
 
 -- a step on the slots, told by its case
 module _ (m : Metered Stop Slots (Unit {0})) (n w mw e me : ℕ) (p r p' : List ℕ) {x : Counted} (h : counted x p' mw me ≡ m (slots (meter w mw e me) p)) where
@@ -108,10 +102,10 @@ module _ (nodes constants : List ℕ) (n id : ℕ) (x : Interval) (w mw e me : �
     unfolding narrow_known
     known_refused {s} {now} q = record { is = bind_stop (in_notes (note n id x)) _ _ (through_stop _ _ _ _ (note n id x) (local (meter w mw e me) p r) (noted_as (noted.Stopped s now) q)) }
 
-    module _ {k now : ℕ} (q : a ≡ At k now) {shape : Affine} (z : shape ≡ affine nodes constants id) (b : Counted) (p' : List ℕ)
+    module _ {k now : ℕ} (q : a ≡ At k now) {shape : Option Affine} (z : shape ≡ affine nodes constants id) (b : Counted) (p' : List ℕ)
         (g : counted b p' mw me ≡ narrow_slot constants shape x (slots (meter now mw e me) p)) where
       slot_is : counted b p' mw me ≡ narrow_slot constants (affine nodes constants id) x (slots (meter now mw e me) p)
-      slot_is = g ∙ ap (λ (a : Affine). narrow_slot constants a x (slots (meter now mw e me) p)) z
+      slot_is = g ∙ ap (λ (a : Option Affine). narrow_slot constants a x (slots (meter now mw e me) p)) z
 
       known_then : {y : Run Stop Local ℕ} → y ≡ (in_slots (narrow_slot constants (affine nodes constants id) x) >> pure k) (local (meter now mw e me) p r') → y ≡ narrow_known nodes constants n id x (local (meter w mw e me) p r)
       unfolding narrow_known

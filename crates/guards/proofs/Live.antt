@@ -18,8 +18,7 @@ use Rattle.limits.proofs.Ends.{Ends, ends_pure, ends_test, ends_bind, ends_then,
 use Rattle.limits.proofs.Live.{Lives, live_work, live_ends}
 use Rattle.interval.specs.declared.Interval.{Interval}
 use Rattle.interval.specs.declared.Interval.TheVariants.{Bottom, Bounded, Unbounded}
-use Rattle.interval.specs.declared.Endpoints.{Endpoints}
-use Rattle.interval.specs.declared.Endpoints.TheVariants.{Nothing, Between}
+use Rattle.std.specs.Prelude.{Option, Some, None}
 use Rattle.interval.specs.Interval.{endpoints_of}
 use Rattle.lattice.specs.Value.{Value}
 use Rattle.rows.specs.Row.{row, entries_of, value_at}
@@ -38,8 +37,9 @@ use Rattle.evaluation.specs.Evaluation.{Input, both}
 use Rattle.evaluation.proofs.Live.{known_lives, both_lives}
 use Rattle.operators.proofs.Formed.{span_proper}
 use Rattle.affine.specs.declared.Affine.{Affine}
-use Rattle.affine.specs.declared.Affine.TheVariants.{None, Sum, Difference, Reversed}
-use Rattle.affine.specs.Affine.{flipped_of, restriction, restricted, affine, solved_sum, solved_difference, solved_reversed}
+use Rattle.affine.specs.declared.Shape.{Shape}
+use Rattle.affine.specs.declared.Shape.TheVariants.{Sum, Difference, Reversed}
+use Rattle.affine.specs.Affine.{flipped_of, restriction, restricted, affine, solved}
 use Rattle.guards.specs.Guards.{Local, local, paying, in_slots, in_notes, fewer, dropping, holding_produced, narrow_slot, narrow_known, refine_operand, refine_both, narrowing?, compared, with_both, member, guard_one, guard_step, guard_all, guard}
 
 -- ---- what guards narrow by has ends of 32 bits, whatever the operands are
@@ -61,17 +61,11 @@ restricted_proper r Unbounded Bottom = tt
 restricted_proper r Unbounded (Bounded c d) = restriction_proper r c d
 restricted_proper r Unbounded Unbounded = restriction_proper r least32 greatest32
 
-pub sum_proper : (c : ℤ) (x : Endpoints) → Proper (solved_sum c x)
-sum_proper c Nothing = tt
-sum_proper c (Between low high) = proper_checked (low -ℤ c) (high -ℤ c)
-
-pub difference_proper : (c : ℤ) (x : Endpoints) → Proper (solved_difference c x)
-difference_proper c Nothing = tt
-difference_proper c (Between low high) = proper_checked (low +ℤ c) (high +ℤ c)
-
-pub reversed_proper : (c : ℤ) (x : Endpoints) → Proper (solved_reversed c x)
-reversed_proper c Nothing = tt
-reversed_proper c (Between low high) = proper_checked (c -ℤ high) (c -ℤ low)
+pub solved_proper : (shape : Shape) (c : ℤ) (x : Option (ℤ × ℤ)) → Proper (solved shape c x)
+solved_proper shape c None = tt
+solved_proper Sum c (Some (low, high)) = proper_checked (low -ℤ c) (high -ℤ c)
+solved_proper Difference c (Some (low, high)) = proper_checked (low +ℤ c) (high +ℤ c)
+solved_proper Reversed c (Some (low, high)) = proper_checked (c -ℤ high) (c -ℤ low)
 
 -- ---- both tables: n rows whose entries are live beside e others, and refinements in cells of 32 bits
 
@@ -135,18 +129,14 @@ stays_note {n} k id x p = record {
 -- ---- `refine_operand`
 
 -- the slot that an expression narrows is one of n
-abbrev pub AffineIn : ℕ → Affine → Type 0
+abbrev pub AffineIn : ℕ → Option Affine → Type 0
 AffineIn n None = Unit {0}
-AffineIn n (Sum slot c) = slot < n
-AffineIn n (Difference slot c) = slot < n
-AffineIn n (Reversed slot c) = slot < n
+AffineIn n (Some a) = a.slot < n
 
 module _ (nodes constants : List ℕ) (small : All (λ c. c < 2 ^ 32) constants) {n : ℕ} where
-  pub keeps_narrow : (a : Affine) (x : Interval) → AffineIn n a → Keeps n (narrow_slot constants a x)
+  pub keeps_narrow : (a : Option Affine) (x : Interval) → AffineIn n a → Keeps n (narrow_slot constants a x)
   keeps_narrow None x l = keeps_pure
-  keeps_narrow (Sum slot c) x l = keeps_refine constants small slot l (solved_sum c (endpoints_of x)) (sum_proper c (endpoints_of x))
-  keeps_narrow (Difference slot c) x l = keeps_refine constants small slot l (solved_difference c (endpoints_of x)) (difference_proper c (endpoints_of x))
-  keeps_narrow (Reversed slot c) x l = keeps_refine constants small slot l (solved_reversed c (endpoints_of x)) (reversed_proper c (endpoints_of x))
+  keeps_narrow (Some a) x l = keeps_refine constants small a.slot l (solved a.shape a.constant (endpoints_of x)) (solved_proper a.shape a.constant (endpoints_of x))
 
   pub stays_known : (k id : ℕ) (x : Interval) → Proper x → AffineIn n (affine nodes constants id) → Stays n (narrow_known nodes constants k id x)
   unfolding narrow_known

@@ -3,7 +3,7 @@
 use Prim.Native.Nat.{ℕ, ◌<◌}
 use mathlib.Core.Path.{◌≡◌, refl}
 use mathlib.Core.List.{List}
-use mathlib.Core.Option.{Option, some, none}
+use Rattle.std.specs.Prelude.{Option, Some, None}
 use lib.IntN.{ℤ}
 use Rattle.nodes.specs.declared.BinaryOp.{BinaryOp}
 use Rattle.nodes.specs.declared.BinaryOp.TheVariants.{Add, Sub, Mul, Div, Mod, Pow, BitAnd, BitOr, BitXor}
@@ -11,41 +11,34 @@ use Rattle.nodes.specs.declared.Expression.{Expression}
 use Rattle.nodes.specs.declared.Expression.TheVariants.{Constant, Slot, Unary, Absolute, Binary, Unknown}
 use Rattle.nodes.specs.Node.{expression_at}
 use Rattle.operators.specs.Literal.{literal}
-use Rattle.affine.specs.Affine.{sum_shape, reversed_shape, difference_shape, binary_shape, shape_of, affine}
+use Rattle.affine.specs.declared.Shape.{Shape}
+use Rattle.affine.specs.declared.Shape.TheVariants.{Sum, Reversed}
+use Rattle.affine.specs.Affine.{shaped, difference_shape, binary_shape, shape_of, affine}
 use Rattle.guards.proofs.Live.{AffineIn}
 
 module _ (nodes constants : List ℕ) (n : ℕ) (Reads : ℕ → Type 0) (slot : (id k : ℕ) → Reads id → expression_at nodes id ≡ Slot k → k < n) where
-  -- slot + c and c − slot, whatever c is
-  sum_in : (id : ℕ) → Reads id → (e : Expression) → expression_at nodes id ≡ e → (c : Option ℤ) → AffineIn n (sum_shape e c)
-  sum_in id h (Constant k) q c = tt
-  sum_in id h (Slot k) q none = tt
-  sum_in id h (Slot k) q (some c) = slot id k h q
-  sum_in id h (Unary op e) q c = tt
-  sum_in id h (Absolute e) q c = tt
-  sum_in id h (Binary op l r) q c = tt
-  sum_in id h (Unknown i w) q c = tt
-
-  reversed_in : (id : ℕ) → Reads id → (e : Expression) → expression_at nodes id ≡ e → (c : Option ℤ) → AffineIn n (reversed_shape e c)
-  reversed_in id h (Constant k) q c = tt
-  reversed_in id h (Slot k) q none = tt
-  reversed_in id h (Slot k) q (some c) = slot id k h q
-  reversed_in id h (Unary op e) q c = tt
-  reversed_in id h (Absolute e) q c = tt
-  reversed_in id h (Binary op l r) q c = tt
-  reversed_in id h (Unknown i w) q c = tt
+  -- in any shape, whatever the constant is
+  shaped_in : (shape : Shape) (id : ℕ) → Reads id → (e : Expression) → expression_at nodes id ≡ e → (c : Option ℤ) → AffineIn n (shaped shape e c)
+  shaped_in shape id h (Constant k) q c = tt
+  shaped_in shape id h (Slot k) q None = tt
+  shaped_in shape id h (Slot k) q (Some c) = slot id k h q
+  shaped_in shape id h (Unary op e) q c = tt
+  shaped_in shape id h (Absolute e) q c = tt
+  shaped_in shape id h (Binary op l r) q c = tt
+  shaped_in shape id h (Unknown i w) q c = tt
 
   module _ (l r : ℕ) (left : Reads l) (right : Reads r) where
     difference_in : (e : Expression) → expression_at nodes l ≡ e → (a b : Option ℤ) → AffineIn n (difference_shape e (expression_at nodes r) a b)
-    difference_in (Constant k) q a b = reversed_in r right (expression_at nodes r) refl a
-    difference_in (Slot k) q a none = tt
-    difference_in (Slot k) q a (some b) = slot l k left q
-    difference_in (Unary op e) q a b = reversed_in r right (expression_at nodes r) refl a
-    difference_in (Absolute e) q a b = reversed_in r right (expression_at nodes r) refl a
-    difference_in (Binary op x y) q a b = reversed_in r right (expression_at nodes r) refl a
-    difference_in (Unknown i w) q a b = reversed_in r right (expression_at nodes r) refl a
+    difference_in (Constant k) q a b = shaped_in Reversed r right (expression_at nodes r) refl a
+    difference_in (Slot k) q a None = tt
+    difference_in (Slot k) q a (Some b) = slot l k left q
+    difference_in (Unary op e) q a b = shaped_in Reversed r right (expression_at nodes r) refl a
+    difference_in (Absolute e) q a b = shaped_in Reversed r right (expression_at nodes r) refl a
+    difference_in (Binary op x y) q a b = shaped_in Reversed r right (expression_at nodes r) refl a
+    difference_in (Unknown i w) q a b = shaped_in Reversed r right (expression_at nodes r) refl a
 
     binary_in : (op : BinaryOp) → AffineIn n (binary_shape nodes constants op l r)
-    binary_in Add = sum_in l left (expression_at nodes l) refl (literal nodes constants r)
+    binary_in Add = shaped_in Sum l left (expression_at nodes l) refl (literal nodes constants r)
     binary_in Sub = difference_in (expression_at nodes l) refl (literal nodes constants l) (literal nodes constants r)
     binary_in Mul = tt
     binary_in Div = tt

@@ -3,6 +3,7 @@ use Prim.Native.Nat.{ℕ}
 use mathlib.Core.Path.{refl, ap}
 use mathlib.Core.Bool.{Bool, true, false, cond, ◌&&◌}
 use mathlib.Core.List.{List}
+use Rattle.std.specs.Prelude.{Option, Some, None}
 use Rattle.limits.specs.declared.Stop.{Stop}
 use Rattle.limits.specs.Metered.{Metered, pure, ◌>>=◌, ◌>>◌}
 use Rattle.limits.specs.declared.Meter.{Meter}
@@ -23,7 +24,6 @@ use Rattle.operators.specs.Arithmetic.{span}
 use Rattle.evaluation.specs.Evaluation.{Input, both}
 use Rattle.evaluation.proofs.Steady.{known_steady, both_steady}
 use Rattle.affine.specs.declared.Affine.{Affine}
-use Rattle.affine.specs.declared.Affine.TheVariants.{None, Sum, Difference, Reversed}
 use Rattle.affine.specs.Affine.{affine}
 use Rattle.guards.specs.Guards.{Local, paying, in_slots, in_notes, dropping, holding_produced, narrow_slot, narrow_known, refine_operand, refine_both, narrowing?, compared, with_both, member, guard_one, guard_step, guard_all, guard}
 
@@ -53,11 +53,9 @@ module _ {A : Type 0} where
 
 -- ---- `refine_operand`
 
-pub on_narrow : (constants : List ℕ) (a : Affine) (x : Interval) → OnRows (narrow_slot constants a x)
+pub on_narrow : (constants : List ℕ) (a : Option Affine) (x : Interval) → OnRows (narrow_slot constants a x)
 on_narrow constants None x = on_pure tt
-on_narrow constants (Sum slot c) x = on_refine constants slot _
-on_narrow constants (Difference slot c) x = on_refine constants slot _
-on_narrow constants (Reversed slot c) x = on_refine constants slot _
+on_narrow constants (Some a) x = on_refine constants a.slot _
 
 module _ (nodes constants : List ℕ) where
   pub on_known : (n id : ℕ) (x : Interval) → OnTables (narrow_known nodes constants n id x)

@@ -1,5 +1,5 @@
 -- The values of a rule's slots after guards: the rest of `rule` of transfer.rs, with `refine_comparison` and `refine_operand`.
-use Rattle.std.specs.Prelude.{ℕ, Bool, cond, ◌&&◌, not, List}
+use Rattle.std.specs.Prelude.{ℕ, Bool, cond, ◌&&◌, not, List, Option, Some, None}
 use Rattle.limits.specs.declared.Stop.{Stop}
 use Rattle.limits.specs.Metered.{Metered, pure, ◌>>=◌, ◌>>◌, fold_m, on_stop, finally, zoom}
 use Rattle.limits.specs.declared.Meter.{Meter}
@@ -16,8 +16,7 @@ use Rattle.refinements.specs.Refinement.{Notes, notes, refinements_of, integer?,
 use Rattle.operators.specs.Arithmetic.{span}
 use Rattle.evaluation.specs.Evaluation.{Input, known_identity, both}
 use Rattle.affine.specs.declared.Affine.{Affine}
-use Rattle.affine.specs.declared.Affine.TheVariants.{None, Sum, Difference, Reversed}
-use Rattle.affine.specs.Affine.{flipped_of, restricted, neq?, affine, solved_sum, solved_difference, solved_reversed}
+use Rattle.affine.specs.Affine.{flipped_of, restricted, neq?, affine, solved}
 
 -- `Local`: the counts, the slots' values after guards, and what is known of expressions
 pub record Local : Type 0 where
@@ -50,11 +49,9 @@ holding_produced n m = on_stop (λ s. fewer (total s.produced n) s) m
 
 -- ---- `refine_operand`: n refinements are recorded, and how many are then is the answer
 
-abbrev pub narrow_slot : List ℕ → Affine → Interval → Metered Stop Slots (Unit {0})
+abbrev pub narrow_slot : List ℕ → Option Affine → Interval → Metered Stop Slots (Unit {0})
 narrow_slot constants None x = pure tt
-narrow_slot constants (Sum slot c) x = refine_into constants slot (solved_sum c (endpoints_of x))
-narrow_slot constants (Difference slot c) x = refine_into constants slot (solved_difference c (endpoints_of x))
-narrow_slot constants (Reversed slot c) x = refine_into constants slot (solved_reversed c (endpoints_of x))
+narrow_slot constants (Some a) x = refine_into constants a.slot (solved a.shape a.constant (endpoints_of x))
 
 -- what is known of an expression, and of a slot
 unfoldable pub narrow_known : List ℕ → List ℕ → ℕ → ℕ → Interval → Metered Stop Local ℕ

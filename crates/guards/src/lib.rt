@@ -29,9 +29,10 @@ pub enum Refined {
 }
 
 // An expression that is a slot and a literal narrows the slot.
+#[tactic(auto, using(crate::proofs::CodeLaws::narrow_none, crate::proofs::CodeLaws::narrow_some))]
 fn narrow_slot(
     produced: &mut [u32],
-    shape: Affine,
+    affine: Option<Affine>,
     restriction: Interval,
     constants: &[u32],
     work: u64,
@@ -39,41 +40,21 @@ fn narrow_slot(
     entries: u64,
     max_entries: u64,
 ) -> Counted
-    ensures { counted result produced.new max_work max_entries ≡ narrow_slot constants.now shape restriction (slots (meter work max_work entries max_entries) produced.old) }
+    ensures { counted result produced.new max_work max_entries ≡ narrow_slot constants.now affine restriction (slots (meter work max_work entries max_entries) produced.old) }
 {
-    match shape {
-        Affine::None => Counted::Going(work, entries),
-        Affine::Sum { slot, constant } => slots::refine_into(
-            produced,
-            slot as usize,
-            affine::solve_sum(constant, restriction),
-            constants,
-            work,
-            max_work,
-            entries,
-            max_entries,
-        ),
-        Affine::Difference { slot, constant } => slots::refine_into(
-            produced,
-            slot as usize,
-            affine::solve_difference(constant, restriction),
-            constants,
-            work,
-            max_work,
-            entries,
-            max_entries,
-        ),
-        Affine::Reversed { slot, constant } => slots::refine_into(
-            produced,
-            slot as usize,
-            affine::solve_reversed(constant, restriction),
-            constants,
-            work,
-            max_work,
-            entries,
-            max_entries,
-        ),
-    }
+    let Some(affine) = affine else {
+        return Counted::Going(work, entries);
+    };
+    slots::refine_into(
+        produced,
+        affine.slot as usize,
+        affine.solve(restriction),
+        constants,
+        work,
+        max_work,
+        entries,
+        max_entries,
+    )
 }
 
 // An expression with one value in a firing: what is known of it is recorded, and narrows a slot.

@@ -6,3 +6,4 @@ pub mod Bits
 pub mod ListLaws
 pub mod Stores
 pub mod Insertion
+pub mod Extremes

@@ -14,11 +14,12 @@ use Rattle.interval.specs.declared.Integrality.TheVariants.{Integer, Mixed}
 use Rattle.interval.specs.declared.Interval.{Interval}
 use Rattle.interval.specs.declared.Interval.TheVariants.{Bottom, Bounded, Unbounded}
 use Rattle.interval.specs.declared.Bound.{Bound}
+use Rattle.interval.specs.declared.TheConstants.Bound.{TOP, BOTTOM}
 use Rattle.interval.specs.declared.Constant.{Constant}
 use Rattle.interval.specs.declared.Constant.TheVariants.{Number as number, Name, Large}
 use Rattle.interval.specs.Cousot.{at, Cousot, empty, between, from_to, join, meet, ◌⊑◌, ◌∋◌}
 use Rattle.interval.specs.Interval.{cousot, interval, hull_of, meet_of, checked_of, contains_of, same_of}
-use Rattle.interval.specs.Bound.{constant_of, either_of, both_of, mixed, hull_bound, meet_bound, same_integrality, same_bound, allows_of, HasNumber, HasNames}
+use Rattle.interval.specs.Bound.{top_of, bottom_of, constant_of, either_of, both_of, mixed, hull_bound, meet_bound, same_integrality, same_bound, allows_of, HasNumber, HasNames}
 use Rattle.interval.proofs.Lattice.{⊑_trans, join_left, join_right, meet_left, meet_right, meet_greatest}
 
 -- ---- nothing is lost in coming back from the intervals of Cousot and Cousot
@@ -219,3 +220,11 @@ unbounded_other e = let z : ◌≡◌ {A = ℕ} 0 1 = cc in omega arith
 pub unbounded_hull : hull_of Unbounded (Bounded least32 greatest32) ≡ Unbounded
 unfolding hull_of
 unbounded_hull = refl
+
+-- ---- the two constants of the code
+
+pub top_is : TOP ≡ top_of
+top_is = refl
+
+pub bottom_is : BOTTOM ≡ bottom_of
+bottom_is = refl

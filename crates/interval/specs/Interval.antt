@@ -1,11 +1,9 @@
 -- The intervals of the port, and what each operation answers. 01: "The interval covers the numbers", "Join takes the hull", "Meet intersects".
-use Rattle.std.specs.Prelude.{Bool, true, false, ◌&&◌, ℤ}
+use Rattle.std.specs.Prelude.{Bool, true, false, ◌&&◌, ℤ, Option, Some, None}
 use Rattle.std.specs.Int.Signed.{le_z}
 use Rattle.integers.specs.Order.{least32, greatest32, eq_z}
 use Rattle.interval.specs.declared.Interval.{Interval}
 use Rattle.interval.specs.declared.Interval.TheVariants.{Bottom, Bounded, Unbounded}
-use Rattle.interval.specs.declared.Endpoints.{Endpoints}
-use Rattle.interval.specs.declared.Endpoints.TheVariants.{Nothing, Between}
 use Rattle.interval.specs.Cousot.{−∞, at, +∞, Cousot, empty, between, from_to, join, meet}
 
 -- the interval of Cousot and Cousot that each case is
@@ -38,14 +36,14 @@ unfoldable pub checked_of : ℤ → ℤ → Interval
 checked_of low high = interval (meet (between (at low) (at high)) (between (at least32) (at greatest32)))
 
 -- `Interval::endpoints`: Unbounded has the two ends of 32 bits
-abbrev pub endpoints_of : Interval → Endpoints
-endpoints_of Bottom = Nothing
-endpoints_of (Bounded low high) = Between low high
-endpoints_of Unbounded = Between least32 greatest32
+abbrev pub endpoints_of : Interval → Option (ℤ × ℤ)
+endpoints_of Bottom = None
+endpoints_of (Bounded low high) = Some (low, high)
+endpoints_of Unbounded = Some (least32, greatest32)
 
-abbrev pub within_ends : Endpoints → ℤ → Bool
-within_ends Nothing n = false
-within_ends (Between low high) n = le_z low n && le_z n high
+abbrev pub within_ends : Option (ℤ × ℤ) → ℤ → Bool
+within_ends None n = false
+within_ends (Some (low, high)) n = le_z low n && le_z n high
 
 abbrev pub contains_of : Interval → ℤ → Bool
 contains_of i n = within_ends (endpoints_of i) n

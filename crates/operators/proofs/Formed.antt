@@ -1,7 +1,7 @@
 -- Whatever operators make of intervals, its ends are numbers of 32 bits.
 use Rattle.integers.specs.Order.{least32, greatest32}
-use Rattle.range.specs.declared.Ranged.{Ranged}
-use Rattle.range.specs.declared.Ranged.TheVariants.{Within, Declined}
+use Rattle.std.specs.Prelude.{Option, Some, None}
+use Rattle.range.specs.declared.Range.{Range}
 use Rattle.range.proofs.Enclosing.{IsProper, checked_proper}
 use Rattle.interval.specs.declared.Interval.{Interval}
 use Rattle.interval.specs.declared.Interval.TheVariants.{Bottom, Bounded, Unbounded}
@@ -13,13 +13,13 @@ use Rattle.nodes.specs.declared.BinaryOp.{BinaryOp}
 use Rattle.nodes.specs.declared.BinaryOp.TheVariants.{Add, Sub, Mul, Div, Mod, Pow, BitAnd, BitOr, BitXor}
 use Rattle.operators.specs.Arithmetic.{range_of, interval_of, negated, unary_of, absolute_of, operated, binary_of, span}
 
-ranged_proper : (r : Ranged) → IsProper r → Proper (interval_of r)
-ranged_proper (Within a) p = (p.low, (p.high, p.ascends))
-ranged_proper Declined p = tt
+ranged_proper : (r : Option Range) → IsProper r → Proper (interval_of r)
+ranged_proper (Some a) p = (p.low, (p.high, p.ascends))
+ranged_proper None p = tt
 
-negated_proper : (r : Ranged) → IsProper (negated r)
-negated_proper (Within a) = checked_proper _ _
-negated_proper Declined = tt
+negated_proper : (r : Option Range) → IsProper (negated r)
+negated_proper (Some a) = checked_proper _ _
+negated_proper None = tt
 
 pub unary_proper : (op : UnaryOp) (x : Interval) → Proper (unary_of op x)
 unary_proper op Bottom = tt
@@ -33,18 +33,18 @@ absolute_proper Bottom = tt
 absolute_proper (Bounded low high) = tt
 absolute_proper Unbounded = tt
 
-operated_proper : (op : BinaryOp) (a b : Ranged) → IsProper (operated op a b)
-operated_proper Add (Within a) (Within b) = checked_proper _ _
-operated_proper Sub (Within a) (Within b) = checked_proper _ _
-operated_proper Mul (Within a) (Within b) = checked_proper _ _
-operated_proper Div (Within a) (Within b) = tt
-operated_proper Mod (Within a) (Within b) = tt
-operated_proper Pow (Within a) (Within b) = tt
-operated_proper BitAnd (Within a) (Within b) = tt
-operated_proper BitOr (Within a) (Within b) = tt
-operated_proper BitXor (Within a) (Within b) = tt
-operated_proper op (Within a) Declined = tt
-operated_proper op Declined b = tt
+operated_proper : (op : BinaryOp) (a b : Option Range) → IsProper (operated op a b)
+operated_proper Add (Some a) (Some b) = checked_proper _ _
+operated_proper Sub (Some a) (Some b) = checked_proper _ _
+operated_proper Mul (Some a) (Some b) = checked_proper _ _
+operated_proper Div (Some a) (Some b) = tt
+operated_proper Mod (Some a) (Some b) = tt
+operated_proper Pow (Some a) (Some b) = tt
+operated_proper BitAnd (Some a) (Some b) = tt
+operated_proper BitOr (Some a) (Some b) = tt
+operated_proper BitXor (Some a) (Some b) = tt
+operated_proper op (Some a) None = tt
+operated_proper op None b = tt
 
 pub binary_proper : (op : BinaryOp) (x y : Interval) → Proper (binary_of op x y)
 binary_proper op x y = ranged_proper (operated op (range_of x) (range_of y)) (operated_proper op (range_of x) (range_of y))

@@ -1,2 +1,1 @@
-pub mod CodeLaws
 pub mod Formed

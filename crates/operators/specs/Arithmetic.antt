@@ -1,13 +1,9 @@
 -- Operators on intervals, as `expression` of transfer.rs applies them. 01: "Sums, differences, products and negation follow range.rs".
-use Rattle.std.specs.Prelude.{Bool, true, false}
+use Rattle.std.specs.Prelude.{Bool, true, false, ℤ, Option, Some, None}
 use Rattle.range.specs.declared.Range.{Range}
-use Rattle.range.specs.declared.Ranged.{Ranged}
-use Rattle.range.specs.declared.Ranged.TheVariants.{Within, Declined}
 use Rattle.range.specs.Range.{checked_of, sum_of, difference_of, product_of, negation_of}
 use Rattle.interval.specs.declared.Interval.{Interval}
 use Rattle.interval.specs.declared.Interval.TheVariants.{Bottom, Bounded, Unbounded}
-use Rattle.interval.specs.declared.Endpoints.{Endpoints}
-use Rattle.interval.specs.declared.Endpoints.TheVariants.{Nothing, Between}
 use Rattle.interval.specs.Interval.{endpoints_of}
 use Rattle.interval.specs.Interval as intervals
 use Rattle.nodes.specs.declared.UnaryOp.{UnaryOp}
@@ -23,21 +19,21 @@ empty? Unbounded = false
 -- ---- to a range and back
 
 -- `range`: Unbounded has no range
-abbrev pub range_of : Interval → Ranged
-range_of Bottom = Declined
+abbrev pub range_of : Interval → Option Range
+range_of Bottom = None
 range_of (Bounded low high) = checked_of low high
-range_of Unbounded = Declined
+range_of Unbounded = None
 
 -- `interval`, and Unbounded where a range declines
-abbrev pub interval_of : Ranged → Interval
-interval_of (Within a) = Bounded a.low a.high
-interval_of Declined = Unbounded
+abbrev pub interval_of : Option Range → Interval
+interval_of (Some a) = Bounded a.low a.high
+interval_of None = Unbounded
 
 -- ---- one operand
 
-abbrev pub negated : Ranged → Ranged
-negated (Within a) = negation_of a
-negated Declined = Declined
+abbrev pub negated : Option Range → Option Range
+negated (Some a) = negation_of a
+negated None = None
 
 -- nothing comes of nothing; bitwise not is Unbounded
 abbrev pub unary_of : UnaryOp → Interval → Interval
@@ -56,21 +52,21 @@ absolute_of Unbounded = Unbounded
 -- ---- two operands
 
 -- `Range::binary`, as far as it is ported
-abbrev pub arithmetic : BinaryOp → Range → Range → Ranged
+abbrev pub arithmetic : BinaryOp → Range → Range → Option Range
 arithmetic Add a b = sum_of a b
 arithmetic Sub a b = difference_of a b
 arithmetic Mul a b = product_of a b
-arithmetic Div a b = Declined
-arithmetic Mod a b = Declined
-arithmetic Pow a b = Declined
-arithmetic BitAnd a b = Declined
-arithmetic BitOr a b = Declined
-arithmetic BitXor a b = Declined
+arithmetic Div a b = None
+arithmetic Mod a b = None
+arithmetic Pow a b = None
+arithmetic BitAnd a b = None
+arithmetic BitOr a b = None
+arithmetic BitXor a b = None
 
-abbrev pub operated : BinaryOp → Ranged → Ranged → Ranged
-operated op (Within a) (Within b) = arithmetic op a b
-operated op (Within a) Declined = Declined
-operated op Declined b = Declined
+abbrev pub operated : BinaryOp → Option Range → Option Range → Option Range
+operated op (Some a) (Some b) = arithmetic op a b
+operated op (Some a) None = None
+operated op None b = None
 
 abbrev pub binary_of : BinaryOp → Interval → Interval → Interval
 binary_of op x y = interval_of (operated op (range_of x) (range_of y))
@@ -88,10 +84,10 @@ difference? BitXor = false
 
 -- ---- from the low end of one to the high end of another: a range binding, and a membership guard
 
-abbrev pub spanned : Endpoints → Endpoints → Interval
-spanned Nothing y = Bottom
-spanned (Between a b) Nothing = Bottom
-spanned (Between a b) (Between c d) = intervals.checked_of a d
+abbrev pub spanned : Option (ℤ × ℤ) → Option (ℤ × ℤ) → Interval
+spanned None y = Bottom
+spanned (Some (a, b)) None = Bottom
+spanned (Some (a, b)) (Some (c, d)) = intervals.checked_of a d
 
 abbrev pub span : Interval → Interval → Interval
 span low high = spanned (endpoints_of low) (endpoints_of high)

@@ -30,9 +30,9 @@ use Rattle.lattice.proofs.Limits.{said_yes, said_no, said_stop}
 use Rattle.rows.specs.Row.{entries_of, value_at, put}
 use Rattle.seeds.specs.Seed.{loses}
 use Rattle.widening.specs.declared.Growth.{Growth}
-use Rattle.widening.specs.declared.Widened.{Widened}
-use Rattle.widening.specs.declared.Widened.TheVariants.{Into}
-use Rattle.widening.specs.declared.Widened.TheVariants as widened
+use Rattle.widening.specs.declared.bridge.Widened.{Widened}
+use Rattle.widening.specs.declared.bridge.Widened.TheVariants.{Into}
+use Rattle.widening.specs.declared.bridge.Widened.TheVariants as widened
 use Rattle.widening.specs.Widening.{widen, growth_at, put_growth}
 use Rattle.widening.specs.Answers.{Widens, widened_into}
 use Rattle.passes.specs.declared.Grew.{Grew}

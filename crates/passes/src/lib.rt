@@ -130,7 +130,7 @@ fn widen_value(
     let after = value.bound;
     let from = before.interval;
     let to = after.interval;
-    match widening::widen(thresholds, from, to, growth, work, max_work) {
+    match widening::widen_counted(thresholds, from, to, growth, work, max_work) {
         Widened::Stopped(stop, now) => {
             let live = limits::release(entries, rows::entries_of(value));
             stopped(stop, value, growth, now, live)

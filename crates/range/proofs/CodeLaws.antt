@@ -1,72 +1,50 @@
 -- What the code's answers are, over plain variables.
-use native.Mathlib.Omega.{arith}
-use mathlib.Core.Path.{◌≡◌, ap₂, ◌∙◌}
-use mathlib.Core.Bool.{true, false}
-use lib.IntN.{ℤ, pos, neg_ℤ, ◌-ℤ◌, ◌*ℤ◌, +ℤ_idl}
-use lib.Signed.{lt_z}
-use mir.Syntax.{w32, w64}
+use mathlib.Core.Path.{◌≡◌, refl}
+use mathlib.Core.Bool.{Bool, true, false}
+use lib.IntN.{ℤ}
+use lib.Signed.{lt_z, le_z}
+use mir.Syntax.{w32}
 use mir.Val.{SFits, to_z, of_z}
-use mir.Facts.{to_z-of_z}
-use Rattle.integers.specs.Order.{Le, min_z, max_z, least32, greatest32, Number, number?}
+use Rattle.std.specs.Prelude.{Some, None, Result, Ok, Err, OkIff, is_ok}
+use Rattle.std.specs.Result.{result_ok}
+use Rattle.std.proofs.lemmas.Int.{to_z-of_z}
+use Rattle.integers.specs.Order.{number?}
 use Rattle.integers.proofs.Tests.{and_false}
-use Rattle.integers.proofs.OrderLaws.{lt_yes, lt_no, yes_le, no_le, yes_number, too_low, too_high}
-use Rattle.integers.proofs.Bits.{lt_at, number_fits}
-use Rattle.range.specs.declared.Ranged.{Ranged}
-use Rattle.range.specs.declared.Ranged.TheVariants.{Within, Declined}
-use Rattle.range.specs.Range.{checked_of, corners_of}
+use Rattle.integers.proofs.OrderLaws.{lt_yes, lt_no, yes_le, no_le, number_yes, yes_number}
+use Rattle.integers.proofs.Bits.{number_fits, fits_number}
+use Rattle.range.specs.Range.{checked_of}
 
--- ---- the ways out of `checked`, by its three tests
+-- ---- whether a number fits 32 bits
 
-module _ {low high : ℤ} (fl : SFits w64 low) (fh : SFits w64 high) where
-  pub descends : lt_z (to_z w64 (of_z w64 high)) (to_z w64 (of_z w64 low)) ≡ true → Declined ≡ checked_of low high
+module _ {E : Type 0} (z : ℤ) where
+  pub not_fitting : (r : Result ℤ E) → OkIff r (SFits w32 z) z → false ≡ is_ok r → number? z ≡ false
+  not_fitting (Ok x) k e = cc
+  not_fitting (Err x) k e = go (number? z) refl
+    where
+      go : (t : Bool) → number? z ≡ t → t ≡ false
+      go true h = absurd (k (number_fits z (number_yes z h)))
+      go false h = refl
+
+  pub fitting : (r : Result ℤ E) {x : ℤ} → OkIff r (SFits w32 z) z → Some x ≡ result_ok r → (number? z ≡ true) × (to_z w32 (of_z w32 x) ≡ z)
+  fitting (Ok y) {x} k e = let p : x ≡ y = cc in (yes_number z (fits_number z k.0), rw (p, k.1) (to_z-of_z w32 z k.0))
+  fitting (Err y) k e = cc
+
+-- ---- the ways out of `checked`
+
+module _ (low high : ℤ) where
+  pub descends : lt_z high low ≡ true → None ≡ checked_of low high
   unfolding checked_of
-  descends e = rw (no_le low high (lt_yes high low (lt_at fh fl e)))
+  descends e = rw (no_le low high (lt_yes high low e))
 
-  module _ (up₁ : lt_z (to_z w64 (of_z w64 high)) (to_z w64 (of_z w64 low)) ≡ false) where
-    ascends : Le low high
-    ascends = lt_no high low (lt_at fh fl up₁)
+  pub low_out : number? low ≡ false → None ≡ checked_of low high
+  unfolding checked_of
+  low_out e = rw (e, and_false (le_z low high))
 
-    pub below : lt_z (to_z w64 (of_z w64 low)) least32 ≡ true → Declined ≡ checked_of low high
-    unfolding checked_of
-    below e = rw (yes_le low high ascends, too_low low (lt_yes low least32 (rw (to_z-of_z fl) at e)))
+  pub high_out : number? high ≡ false → None ≡ checked_of low high
+  unfolding checked_of
+  high_out e = rw (e, and_false (number? low), and_false (le_z low high))
 
-    module _ (up₂ : lt_z (to_z w64 (of_z w64 low)) least32 ≡ false) where
-      from_least : Le least32 low
-      from_least = lt_no low least32 (rw (to_z-of_z fl) at up₂)
-
-      pub above : lt_z greatest32 (to_z w64 (of_z w64 high)) ≡ true → Declined ≡ checked_of low high
-      unfolding checked_of
-      above e = rw (yes_le low high ascends, too_high high (lt_yes greatest32 high (rw (to_z-of_z fh) at e)), and_false (number? low))
-
-      module _ (up₃ : lt_z greatest32 (to_z w64 (of_z w64 high)) ≡ false) where
-        to_greatest : Le high greatest32
-        to_greatest = lt_no greatest32 high (rw (to_z-of_z fh) at up₃)
-
-        pub low_fits : SFits w32 (to_z w64 (of_z w64 low))
-        low_fits = rw (to_z-of_z fl) (number_fits low (from_least, omega (arith, ascends, to_greatest)))
-
-        pub high_fits : SFits w32 (to_z w64 (of_z w64 high))
-        high_fits = rw (to_z-of_z fh) (number_fits high (omega (arith, ascends, from_least), to_greatest))
-
-        pub fitting : Within (record { low = to_z w32 (of_z w32 (to_z w64 (of_z w64 low))); high = to_z w32 (of_z w32 (to_z w64 (of_z w64 high))) }) ≡ checked_of low high
-        unfolding checked_of
-        fitting =
-            let l : Number low = (from_least, omega (arith, ascends, to_greatest)) in
-            let h : Number high = (omega (arith, ascends, from_least), to_greatest) in
-            rw (to_z-of_z fl, to_z-of_z fh, to_z-of_z (number_fits low l), to_z-of_z (number_fits high h), yes_le low high ascends, yes_number low l, yes_number high h)
-
--- ---- the least and the greatest corner
-
-module _ (low high right_low right_high : ℤ) {ll lh hl hh l₁ l₂ lowest g₁ g₂ highest : ℤ} {r : Ranged} where
-  pub corners_is : ll ≡ low *ℤ right_low → lh ≡ low *ℤ right_high → hl ≡ high *ℤ right_low → hh ≡ high *ℤ right_high →
-      l₁ ≡ min_z ll lh → l₂ ≡ min_z hl hh → lowest ≡ min_z l₁ l₂ → g₁ ≡ max_z ll lh → g₂ ≡ max_z hl hh → highest ≡ max_z g₁ g₂ →
-      r ≡ checked_of lowest highest → r ≡ corners_of low high right_low right_high
-  corners_is a b c d e f g h i j k = cc
-
--- an answer from ends that are worked out first
-pub from_ends : {r : Ranged} {low high a b : ℤ} → low ≡ a → high ≡ b → r ≡ checked_of low high → r ≡ checked_of a b
-from_ends p q e = e ∙ ap₂ checked_of p q
-
--- a difference from 0 is the negation
-pub less_from_zero : {z : ℤ} (a : ℤ) → z ≡ pos 0 -ℤ a → z ≡ neg_ℤ a
-less_from_zero a e = e ∙ +ℤ_idl (neg_ℤ a)
+  pub within : {a b : ℤ} → lt_z high low ≡ false → (number? low ≡ true) × (a ≡ low) → (number? high ≡ true) × (b ≡ high) →
+      Some (record { low = a; high = b }) ≡ checked_of low high
+  unfolding checked_of
+  within e l h = rw (l.1, h.1, yes_le low high (lt_no high low e), l.0, h.0)

@@ -9,13 +9,12 @@ use Rattle.integers.proofs.OrderLaws.{le_yes, number_yes}
 use Rattle.integers.proofs.Sums.{add_grows, sub_grows, neg_falls}
 use Rattle.integers.proofs.Products.{corners}
 use Rattle.range.specs.declared.Range.{Range}
-use Rattle.range.specs.declared.Ranged.{Ranged}
-use Rattle.range.specs.declared.Ranged.TheVariants.{Within, Declined}
+use Rattle.std.specs.Prelude.{Option, Some, None}
 use Rattle.range.specs.Range.{checked_of, sum_of, difference_of, product_of, negation_of, Has, Encloses}
 
 pub checked_encloses : (low high z : ℤ) → Between low high z → Encloses (checked_of low high) z
 unfolding checked_of
-checked_encloses low high z h = by_cond (λ (r : Ranged). Encloses r z) (le_z low high && (number? low && number? high)) (λ _. h) (λ _. tt)
+checked_encloses low high z h = by_cond (λ (r : Option Range). Encloses r z) (le_z low high && (number? low && number? high)) (λ _. h) (λ _. tt)
 
 -- ---- every result over the operands
 
@@ -39,9 +38,9 @@ pub record Proper (a : Range) : Type 0 where
   pub high : Number a.high
   pub ascends : Le a.low a.high
 
-abbrev pub IsProper : Ranged → Type 0
-IsProper (Within a) = Proper a
-IsProper Declined = Unit {0}
+abbrev pub IsProper : Option Range → Type 0
+IsProper (Some a) = Proper a
+IsProper None = Unit {0}
 
 pub checked_proper : (low high : ℤ) → IsProper (checked_of low high)
 unfolding checked_of

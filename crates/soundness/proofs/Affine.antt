@@ -6,6 +6,8 @@ use mathlib.Core.Path.{◌≡◌, refl, sym, ap, subst, ◌∙◌}
 use mathlib.Core.Logic.{⊎_elim}
 use mathlib.Core.List.{List}
 use mathlib.Core.Option.{Option, some, none}
+use Rattle.std.specs.Prelude as std
+use Rattle.std.proofs.lemmas.Option.{none-some, same_Some}
 use lib.IntN.{ℤ, pos, ◌+ℤ◌, ◌-ℤ◌}
 use Rattle.integers.specs.Order.{up, dn, Number, Between, Le, Lt, least32, greatest32}
 use Rattle.integers.proofs.OrderLaws.{by_lt, le_antisym}
@@ -32,8 +34,9 @@ use Rattle.producers.specs.Producer.{Scope, scope}
 use Rattle.producers.proofs.Scoped.{Scoped, in_constant, in_slot, in_unary, in_absolute, in_binary, in_unknown}
 use Rattle.operators.specs.Literal.{number_of, literal_of, literal}
 use Rattle.affine.specs.declared.Affine.{Affine}
-use Rattle.affine.specs.declared.Affine.TheVariants.{None, Sum, Difference, Reversed}
-use Rattle.affine.specs.Affine.{flipped_of, restriction, restricted, difference, sum_shape, reversed_shape, difference_shape, binary_shape, shape_of, affine, solved_sum, solved_difference, solved_reversed}
+use Rattle.affine.specs.declared.Shape.{Shape}
+use Rattle.affine.specs.declared.Shape.TheVariants.{Sum, Difference, Reversed}
+use Rattle.affine.specs.Affine.{flipped_of, restriction, restricted, formed, shaped, difference_shape, binary_shape, shape_of, affine, solved}
 use Rattle.soundness.specs.Plain.{Tree, Choice, into, apply_two, worth, Related}
 use Rattle.soundness.specs.Plain as plain
 use Rattle.soundness.specs.Tied.{key_tree, tree_of}
@@ -108,11 +111,15 @@ pub record Made (w : Scene) (n slot : ℕ) (z : ℤ) (f : ℤ → ℤ) : Type 0 
   pub has : w.slots slot ≡ number k
   pub is : z ≡ f k
 
-abbrev pub Means : Scene → ℕ → Affine → ℤ → Type 0
-Means w n None z = Unit {0}
-Means w n (Sum slot c) z = Made w n slot z (λ k. k +ℤ c)
-Means w n (Difference slot c) z = Made w n slot z (λ k. k -ℤ c)
-Means w n (Reversed slot c) z = Made w n slot z (λ k. c -ℤ k)
+-- the number of an expression in some shape, from that of the slot
+abbrev pub by : Shape → ℤ → ℤ → ℤ
+by Sum c k = k +ℤ c
+by Difference c k = k -ℤ c
+by Reversed c k = c -ℤ k
+
+abbrev pub Means : Scene → ℕ → std.Option Affine → ℤ → Type 0
+Means w n std.None z = Unit {0}
+Means w n (std.Some a) z = Made w n a.slot z (by a.shape a.constant)
 
 -- a slot in scope
 pub slot_inside : (nodes : List ℕ) (expressions n id s : ℕ) → expression_at nodes id ≡ Slot s → Scoped (scope nodes expressions n) id → s < n
@@ -125,34 +132,34 @@ slot_inside nodes expressions n id s e (in_unknown h f) = let g = sym e ∙ f in
 
 module _ (w : Scene) where
   -- a literal is worth its number
-  literal_worth : (id : ℕ) (c : ℤ) (ch : Choice) (k : Key) → literal w.nodes w.constants id ≡ some c → Worth w ch id k → k ≡ number c
+  literal_worth : (id : ℕ) (c : ℤ) (ch : Choice) (k : Key) → literal w.nodes w.constants id ≡ std.Some c → Worth w ch id k → k ≡ number c
   unfolding worth literal
   literal_worth id c ch k e =
       at_tree w (λ (t : Tree). worth w.opaque w.slots ch t ≡ some k → k ≡ number c) id (λ q. absurd (none_some q)) (of (expression_at w.nodes id) e)
     where
-      numbered : (i : ℕ) → number_of (constant_at w.constants i) ≡ some c → (j : Key) → w.key i ≡ some j → j ≡ number c
+      numbered : (i : ℕ) → number_of (constant_at w.constants i) ≡ std.Some c → (j : Key) → w.key i ≡ some j → j ≡ number c
       numbered i f (number z) g =
-          let h : number_of (NumberOf z) ≡ some c = subst (λ (d : Class). number_of d ≡ some c) (w.keys.numbers i z g) f in ap number (some_is h)
+          let h : number_of (NumberOf z) ≡ std.Some c = subst (λ (d : Class). number_of d ≡ std.Some c) (w.keys.numbers i z g) f in ap number (same_Some _ _ h)
       numbered i f (name s) g =
-          ⊎_elim (λ d. absurd (none_some (subst (λ (b : Class). number_of b ≡ some c) d f))) (λ d. absurd (none_some (subst (λ (b : Class). number_of b ≡ some c) d f)))
+          ⊎_elim (λ d. absurd (none-some c (subst (λ (b : Class). number_of b ≡ std.Some c) d f))) (λ d. absurd (none-some c (subst (λ (b : Class). number_of b ≡ std.Some c) d f)))
           (w.keys.names i s g)
 
-      by_key : (i : ℕ) → number_of (constant_at w.constants (id_of i)) ≡ some c → (o : Option Key) → w.key i ≡ o → worth w.opaque w.slots ch (key_tree o) ≡ some k → k ≡ number c
+      by_key : (i : ℕ) → number_of (constant_at w.constants (id_of i)) ≡ std.Some c → (o : Option Key) → w.key i ≡ o → worth w.opaque w.slots ch (key_tree o) ≡ some k → k ≡ number c
       by_key i f none g q = absurd (none_some q)
       by_key i f (some j) g q =
           let s : id_of i ≡ i = short i (w.keys.short i j g) in
-          sym (some_is q) ∙ numbered i (subst (λ (h : ℕ). number_of (constant_at w.constants h) ≡ some c) s f) j g
+          sym (some_is q) ∙ numbered i (subst (λ (h : ℕ). number_of (constant_at w.constants h) ≡ std.Some c) s f) j g
         where
           short : (i : ℕ) → i < 65536 → id_of i ≡ i
           short i h = omega arith
 
-      of : (x : Expression) → literal_of w.constants x ≡ some c → worth w.opaque w.slots ch (tree_of w.key w.tree x) ≡ some k → k ≡ number c
+      of : (x : Expression) → literal_of w.constants x ≡ std.Some c → worth w.opaque w.slots ch (tree_of w.key w.tree x) ≡ some k → k ≡ number c
       of (Constant i) f q = by_key i f (w.key i) refl q
-      of (Slot s) f q = absurd (none_some f)
-      of (Unary op a) f q = absurd (none_some f)
-      of (Absolute a) f q = absurd (none_some f)
-      of (Binary op l r) f q = absurd (none_some f)
-      of (Unknown i reason) f q = absurd (none_some f)
+      of (Slot s) f q = absurd (none-some c f)
+      of (Unary op a) f q = absurd (none-some c f)
+      of (Absolute a) f q = absurd (none-some c f)
+      of (Binary op l r) f q = absurd (none-some c f)
+      of (Unknown i reason) f q = absurd (none-some c f)
 
   -- a slot is worth its value
   slot_worth : (id s : ℕ) (ch : Choice) (k : Key) → expression_at w.nodes id ≡ Slot s → Worth w ch id k → k ≡ w.slots s
@@ -168,10 +175,10 @@ module _ (w : Scene) where
 
     -- two operands with numbers
     module _ (l r : ℕ) (sl : Scoped here l) (sr : Scoped here r) (ch : Choice) (a b z : ℤ) (left : Worth w (into 0 ch) l (number a)) (right : Worth w (into 1 ch) r (number b)) where
-      sum_means : z ≡ a +ℤ b → (e : Expression) → expression_at w.nodes l ≡ e → (o : Option ℤ) → literal w.nodes w.constants r ≡ o → Means w n (sum_shape e o) z
+      sum_means : z ≡ a +ℤ b → (e : Expression) → expression_at w.nodes l ≡ e → (o : std.Option ℤ) → literal w.nodes w.constants r ≡ o → Means w n (shaped Sum e o) z
       sum_means is (Constant k) f o g = tt
-      sum_means is (Slot s) f none g = tt
-      sum_means is (Slot s) f (some c) g = record {
+      sum_means is (Slot s) f std.None g = tt
+      sum_means is (Slot s) f (std.Some c) g = record {
         k = a;
         inside = slot_inside w.nodes expressions n l s f sl;
         has = sym (slot_worth l s (into 0 ch) (number a) f left);
@@ -182,10 +189,10 @@ module _ (w : Scene) where
       sum_means is (Binary op e d) f o g = tt
       sum_means is (Unknown i reason) f o g = tt
 
-      reversed_means : z ≡ a -ℤ b → (e : Expression) → expression_at w.nodes r ≡ e → (o : Option ℤ) → literal w.nodes w.constants l ≡ o → Means w n (reversed_shape e o) z
+      reversed_means : z ≡ a -ℤ b → (e : Expression) → expression_at w.nodes r ≡ e → (o : std.Option ℤ) → literal w.nodes w.constants l ≡ o → Means w n (shaped Reversed e o) z
       reversed_means is (Constant k) f o g = tt
-      reversed_means is (Slot s) f none g = tt
-      reversed_means is (Slot s) f (some c) g = record {
+      reversed_means is (Slot s) f std.None g = tt
+      reversed_means is (Slot s) f (std.Some c) g = record {
         k = b;
         inside = slot_inside w.nodes expressions n r s f sr;
         has = sym (slot_worth r s (into 1 ch) (number b) f right);
@@ -196,9 +203,9 @@ module _ (w : Scene) where
       reversed_means is (Binary op e d) f o g = tt
       reversed_means is (Unknown i reason) f o g = tt
 
-      slot_less : z ≡ a -ℤ b → (s : ℕ) → expression_at w.nodes l ≡ Slot s → (o : Option ℤ) → literal w.nodes w.constants r ≡ o → Means w n (difference s o) z
-      slot_less is s f none g = tt
-      slot_less is s f (some c) g = record {
+      slot_less : z ≡ a -ℤ b → (s : ℕ) → expression_at w.nodes l ≡ Slot s → (o : std.Option ℤ) → literal w.nodes w.constants r ≡ o → Means w n (formed Difference s o) z
+      slot_less is s f std.None g = tt
+      slot_less is s f (std.Some c) g = record {
         k = a;
         inside = slot_inside w.nodes expressions n l s f sl;
         has = sym (slot_worth l s (into 0 ch) (number a) f left);
@@ -248,32 +255,37 @@ module _ (w : Scene) where
 -- ---- where the slot then lies
 
 module _ (x : Interval) (k c z : ℤ) (f : Number k) (g : Number z) (h : cousot x ∋ z) where
-  pub sum_solved : z ≡ k +ℤ c → cousot (solved_sum c (endpoints_of x)) ∋ k
+  sum_solved : z ≡ k +ℤ c → cousot (solved Sum c (endpoints_of x)) ∋ k
   sum_solved e = go x h
     where
-      go : (x : Interval) → cousot x ∋ z → cousot (solved_sum c (endpoints_of x)) ∋ k
+      go : (x : Interval) → cousot x ∋ z → cousot (solved Sum c (endpoints_of x)) ∋ k
       go Bottom h = absurd h
       go (Bounded low high) h = (checked_has (low -ℤ c) (high -ℤ c) k f).1 (omega (arith, sub_split_ℤ low c, add_split k c, up_same e, dn_same e), omega (arith, sub_split_ℤ high c, add_split k c, up_same e, dn_same e))
       go Unbounded h =
           (checked_has (least32 -ℤ c) (greatest32 -ℤ c) k f).1
           (omega (arith, sub_split_ℤ least32 c, add_split k c, up_same e, dn_same e, g.0), omega (arith, sub_split_ℤ greatest32 c, add_split k c, up_same e, dn_same e, g.1))
 
-  pub difference_solved : z ≡ k -ℤ c → cousot (solved_difference c (endpoints_of x)) ∋ k
+  difference_solved : z ≡ k -ℤ c → cousot (solved Difference c (endpoints_of x)) ∋ k
   difference_solved e = go x h
     where
-      go : (x : Interval) → cousot x ∋ z → cousot (solved_difference c (endpoints_of x)) ∋ k
+      go : (x : Interval) → cousot x ∋ z → cousot (solved Difference c (endpoints_of x)) ∋ k
       go Bottom h = absurd h
       go (Bounded low high) h = (checked_has (low +ℤ c) (high +ℤ c) k f).1 (omega (arith, add_split low c, sub_split_ℤ k c, up_same e, dn_same e), omega (arith, add_split high c, sub_split_ℤ k c, up_same e, dn_same e))
       go Unbounded h =
           (checked_has (least32 +ℤ c) (greatest32 +ℤ c) k f).1
           (omega (arith, add_split least32 c, sub_split_ℤ k c, up_same e, dn_same e, g.0), omega (arith, add_split greatest32 c, sub_split_ℤ k c, up_same e, dn_same e, g.1))
 
-  pub reversed_solved : z ≡ c -ℤ k → cousot (solved_reversed c (endpoints_of x)) ∋ k
+  reversed_solved : z ≡ c -ℤ k → cousot (solved Reversed c (endpoints_of x)) ∋ k
   reversed_solved e = go x h
     where
-      go : (x : Interval) → cousot x ∋ z → cousot (solved_reversed c (endpoints_of x)) ∋ k
+      go : (x : Interval) → cousot x ∋ z → cousot (solved Reversed c (endpoints_of x)) ∋ k
       go Bottom h = absurd h
       go (Bounded low high) h = (checked_has (c -ℤ high) (c -ℤ low) k f).1 (omega (arith, sub_split_ℤ c high, sub_split_ℤ c k, up_same e, dn_same e), omega (arith, sub_split_ℤ c low, sub_split_ℤ c k, up_same e, dn_same e))
       go Unbounded h =
           (checked_has (c -ℤ greatest32) (c -ℤ least32) k f).1
           (omega (arith, sub_split_ℤ c greatest32, sub_split_ℤ c k, up_same e, dn_same e, g.1), omega (arith, sub_split_ℤ c least32, sub_split_ℤ c k, up_same e, dn_same e, g.0))
+
+  pub solved_has : (shape : Shape) → z ≡ by shape c k → cousot (solved shape c (endpoints_of x)) ∋ k
+  solved_has Sum = sum_solved
+  solved_has Difference = difference_solved
+  solved_has Reversed = reversed_solved

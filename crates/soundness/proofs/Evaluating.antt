@@ -17,8 +17,8 @@ use Rattle.limits.specs.Metered.{Metered, ◌>>=◌}
 use Rattle.limits.specs.declared.Meter.{Meter}
 use Rattle.limits.specs.Meter.{work, holding, dropping}
 use Rattle.limits.proofs.Monad.{Ensures, by_pure, by_test, bind, then, weaken, both, for_all, by_through}
-use Rattle.range.specs.declared.Ranged.{Ranged}
-use Rattle.range.specs.declared.Ranged.TheVariants.{Within, Declined}
+use Rattle.std.specs.Prelude as std
+use Rattle.range.specs.declared.Range.{Range}
 use Rattle.range.specs.Range.{Encloses}
 use Rattle.range.proofs.Enclosing.{checked_encloses, sum_encloses, difference_encloses, product_encloses, negation_encloses}
 use Rattle.interval.specs.declared.Integrality.{Integrality}
@@ -67,13 +67,13 @@ within Bottom n h = absurd h
 within (Bounded low high) n h = checked_encloses low high n h
 within Unbounded n h = tt
 
-encloses_in : (r : Ranged) (z : ℤ) → Encloses r z → cousot (interval_of r) ∋ z
-encloses_in (Within a) z h = h
-encloses_in Declined z h = (tt, tt)
+encloses_in : (r : std.Option Range) (z : ℤ) → Encloses r z → cousot (interval_of r) ∋ z
+encloses_in (std.Some a) z h = h
+encloses_in std.None z h = (tt, tt)
 
-negated_encloses : (r : Ranged) (n : ℤ) → Encloses r n → Encloses (negated r) (neg_ℤ n)
-negated_encloses (Within a) n h = negation_encloses a n h
-negated_encloses Declined n h = tt
+negated_encloses : (r : std.Option Range) (n : ℤ) → Encloses r n → Encloses (negated r) (neg_ℤ n)
+negated_encloses (std.Some a) n h = negation_encloses a n h
+negated_encloses std.None n h = tt
 
 unary_in : (o : Opaque) (op : UnaryOp) (x : Interval) (n z : ℤ) → cousot x ∋ n → apply_one o op n ≡ some z → cousot (unary_of op x) ∋ z
 unary_in o op Bottom n z h e = absurd h
@@ -89,18 +89,18 @@ absolute_in Bottom n z h = absurd h
 absolute_in (Bounded low high) n z h = (tt, tt)
 absolute_in Unbounded n z h = (tt, tt)
 
-operated_encloses : (o : Opaque) (op : BinaryOp) (r q : Ranged) (m n z : ℤ) → Encloses r m → Encloses q n → apply_two o op m n ≡ some z → Encloses (operated op r q) z
-operated_encloses o Add (Within a) (Within b) m n z p q e = subst (Encloses (operated Add (Within a) (Within b))) (some_is e) (sum_encloses a b m n p q)
-operated_encloses o Sub (Within a) (Within b) m n z p q e = subst (Encloses (operated Sub (Within a) (Within b))) (some_is e) (difference_encloses a b m n p q)
-operated_encloses o Mul (Within a) (Within b) m n z p q e = subst (Encloses (operated Mul (Within a) (Within b))) (some_is e) (product_encloses a b m n p q)
-operated_encloses o Div (Within a) (Within b) m n z p q e = tt
-operated_encloses o Mod (Within a) (Within b) m n z p q e = tt
-operated_encloses o Pow (Within a) (Within b) m n z p q e = tt
-operated_encloses o BitAnd (Within a) (Within b) m n z p q e = tt
-operated_encloses o BitOr (Within a) (Within b) m n z p q e = tt
-operated_encloses o BitXor (Within a) (Within b) m n z p q e = tt
-operated_encloses o op (Within a) Declined m n z p q e = tt
-operated_encloses o op Declined b m n z p q e = tt
+operated_encloses : (o : Opaque) (op : BinaryOp) (r q : std.Option Range) (m n z : ℤ) → Encloses r m → Encloses q n → apply_two o op m n ≡ some z → Encloses (operated op r q) z
+operated_encloses o Add (std.Some a) (std.Some b) m n z p q e = subst (Encloses (operated Add (std.Some a) (std.Some b))) (some_is e) (sum_encloses a b m n p q)
+operated_encloses o Sub (std.Some a) (std.Some b) m n z p q e = subst (Encloses (operated Sub (std.Some a) (std.Some b))) (some_is e) (difference_encloses a b m n p q)
+operated_encloses o Mul (std.Some a) (std.Some b) m n z p q e = subst (Encloses (operated Mul (std.Some a) (std.Some b))) (some_is e) (product_encloses a b m n p q)
+operated_encloses o Div (std.Some a) (std.Some b) m n z p q e = tt
+operated_encloses o Mod (std.Some a) (std.Some b) m n z p q e = tt
+operated_encloses o Pow (std.Some a) (std.Some b) m n z p q e = tt
+operated_encloses o BitAnd (std.Some a) (std.Some b) m n z p q e = tt
+operated_encloses o BitOr (std.Some a) (std.Some b) m n z p q e = tt
+operated_encloses o BitXor (std.Some a) (std.Some b) m n z p q e = tt
+operated_encloses o op (std.Some a) std.None m n z p q e = tt
+operated_encloses o op std.None b m n z p q e = tt
 
 binary_in : (o : Opaque) (op : BinaryOp) (x y : Interval) (m n z : ℤ) → cousot x ∋ m → cousot y ∋ n → apply_two o op m n ≡ some z → cousot (binary_of op x y) ∋ z
 binary_in o op x y m n z p q e = encloses_in (operated op (range_of x) (range_of y)) z (operated_encloses o op (range_of x) (range_of y) m n z (within x m p) (within y n q) e)

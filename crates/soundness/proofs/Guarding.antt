@@ -46,11 +46,11 @@ use Rattle.operators.specs.Arithmetic.{span}
 use Rattle.evaluation.specs.Evaluation.{Input, known_identity}
 use Rattle.evaluation.specs.Evaluation as evaluation
 use Rattle.affine.specs.declared.Affine.{Affine}
-use Rattle.affine.specs.declared.Affine.TheVariants.{None, Sum, Difference, Reversed}
-use Rattle.affine.specs.Affine.{flipped_of, restricted, neq?, affine, solved_sum, solved_difference, solved_reversed}
+use Rattle.std.specs.Prelude as std
+use Rattle.affine.specs.Affine.{flipped_of, restricted, neq?, affine, solved}
 use Rattle.guards.specs.Guards.{Local, paying, in_slots, in_notes, narrow_slot, narrow_known, refine_operand, refine_both, narrowing?, compared, with_both, member, guard_one, guard_step, guard_all}
 use Rattle.guards.specs.Guards as guards
-use Rattle.guards.proofs.Live.{restricted_proper, sum_proper, difference_proper, reversed_proper}
+use Rattle.guards.proofs.Live.{restricted_proper, solved_proper}
 use Rattle.operators.proofs.Formed.{span_proper}
 use Rattle.soundness.specs.Plain.{Choice, into, worth, Proper, Within, Compared, GuardHolds, AllHold}
 use Rattle.soundness.specs.Tied.{guard_of}
@@ -58,7 +58,7 @@ use Rattle.soundness.proofs.Lies.{Lies, refine_lies}
 use Rattle.soundness.proofs.Worth.{Scene, ProperChoice, proper_into, Worth, Fixed, fixed_worth, worth_proper}
 use Rattle.soundness.proofs.Evaluating.{Holds, Sound, integers, identity_sound}
 use Rattle.soundness.proofs.Binding.{Good, Held, held_slots, held_more, Keeps, keeps_pure, keeps_replace, span_in, both_sound}
-use Rattle.soundness.proofs.Affine.{related_numbers, compares_flipped, restricted_in, Means, affine_means, sum_solved, difference_solved, reversed_solved}
+use Rattle.soundness.proofs.Affine.{related_numbers, compares_flipped, restricted_in, Means, affine_means, solved_has}
 
 -- ---- what is recorded
 
@@ -158,14 +158,11 @@ module _ (w : Scene) (small : All (λ c. c < 2 ^ 32) w.constants) (n : ℕ) wher
   slot_number : (slot : ℕ) (k : ℤ) → w.slots slot ≡ number k → Number k
   slot_number slot k e = subst Proper e (w.proper slot)
 
-  narrow_keeps : (shape : Affine) (x : Interval) (z : ℤ) → Number z → cousot x ∋ z → Means w n shape z → Keeps (Held w n) (narrow_slot w.constants shape x)
-  narrow_keeps None x z f h m = keeps_pure
-  narrow_keeps (Sum slot c) x z f h m =
-      refine_keeps slot m.inside (solved_sum c (endpoints_of x)) m.k m.has (sum_solved x m.k c z (slot_number slot m.k m.has) f h m.is) (sum_proper c (endpoints_of x))
-  narrow_keeps (Difference slot c) x z f h m =
-      refine_keeps slot m.inside (solved_difference c (endpoints_of x)) m.k m.has (difference_solved x m.k c z (slot_number slot m.k m.has) f h m.is) (difference_proper c (endpoints_of x))
-  narrow_keeps (Reversed slot c) x z f h m =
-      refine_keeps slot m.inside (solved_reversed c (endpoints_of x)) m.k m.has (reversed_solved x m.k c z (slot_number slot m.k m.has) f h m.is) (reversed_proper c (endpoints_of x))
+  narrow_keeps : (affine : std.Option Affine) (x : Interval) (z : ℤ) → Number z → cousot x ∋ z → Means w n affine z → Keeps (Held w n) (narrow_slot w.constants affine x)
+  narrow_keeps std.None x z f h m = keeps_pure
+  narrow_keeps (std.Some a) x z f h m =
+      refine_keeps a.slot m.inside (solved a.shape a.constant (endpoints_of x)) m.k m.has (solved_has x m.k a.constant z (slot_number a.slot m.k m.has) f h a.shape m.is)
+      (solved_proper a.shape a.constant (endpoints_of x))
 
 -- ---- `refine_operand`
 

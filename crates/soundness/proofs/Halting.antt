@@ -23,8 +23,7 @@ use Rattle.limits.specs.declared.Meter.{Meter}
 use Rattle.limits.specs.Meter.{meter_of}
 use Rattle.limits.proofs.Ends.{Ends, completes, stops, ends_both}
 use Rattle.interval.specs.declared.Interval.{Interval}
-use Rattle.interval.specs.declared.Endpoints.{Endpoints}
-use Rattle.interval.specs.declared.Endpoints.TheVariants.{Nothing, Between}
+use Rattle.std.specs.Prelude.{Option, Some, None}
 use Rattle.interval.specs.Interval.{endpoints_of}
 use Rattle.search.specs.Seek.{Place, found, absent}
 use Rattle.thresholds.specs.Thresholds.{against, seek_number, insert, cost, settle, enter}
@@ -136,10 +135,10 @@ widen_halts : (thresholds : List ℤ) (previous next : Interval) (g : Growth) �
 unfolding widen widen_low widen_high below above
 widen_halts thresholds previous next g = go (endpoints_of previous) (endpoints_of next)
   where
-    go : (p n : Endpoints) → Frugal (widen_ends thresholds next g p n)
-    go Nothing n = halts_pure _
-    go (Between a b) Nothing = halts_pure _
-    go (Between a b) (Between c d) =
+    go : (p n : Option (ℤ × ℤ)) → Frugal (widen_ends thresholds next g p n)
+    go None n = halts_pure _
+    go (Some (a, b)) None = halts_pure _
+    go (Some (a, b)) (Some (c, d)) =
         halts_bind (side_halts (le_z a c) c g.low (nearest_halts (λ t. le_z t c) c (reverse thresholds)))
         (λ l. halts_bind (side_halts (le_z d b) d g.high (nearest_halts (λ t. le_z d t) d thresholds)) (λ h. halts_pure _))
 

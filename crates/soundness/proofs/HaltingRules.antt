@@ -50,7 +50,7 @@ use Rattle.operators.specs.Arithmetic.{empty?, difference?}
 use Rattle.evaluation.specs.Evaluation.{Input, known_node, known_in, known_identity, combined, after_one, after_two, evaluate_node, evaluate_in, expression, Values, both}
 use Rattle.bindings.specs.Bindings.{assigned, aggregate, spanning, ranged, meeting, meet_binding, passes, bind}
 use Rattle.affine.specs.declared.Affine.{Affine}
-use Rattle.affine.specs.declared.Affine.TheVariants as affinity
+use Rattle.std.specs.Prelude as std
 use Rattle.affine.specs.Affine.{affine}
 use Rattle.guards.specs.Guards.{Local, narrow_slot, narrow_known, refine_operand, refine_both, narrowing?, compared, with_both, member, guard_one, guard_step, guard_all, guard}
 use Rattle.transfer.specs.Transfer.{guarding, rule, head}
@@ -412,11 +412,9 @@ bindings_halt i arguments n bs =
 
 -- ---- guards
 
-narrow_slot_lem : (constants : List ℕ) (a : Affine) (x : Interval) → Frugal (narrow_slot constants a x)
-narrow_slot_lem constants affinity.None x = halts_pure tt
-narrow_slot_lem constants (affinity.Sum slot c) x = refine_into_lem constants slot _
-narrow_slot_lem constants (affinity.Difference slot c) x = refine_into_lem constants slot _
-narrow_slot_lem constants (affinity.Reversed slot c) x = refine_into_lem constants slot _
+narrow_slot_lem : (constants : List ℕ) (a : std.Option Affine) (x : Interval) → Frugal (narrow_slot constants a x)
+narrow_slot_lem constants std.None x = halts_pure tt
+narrow_slot_lem constants (std.Some a) x = refine_into_lem constants a.slot _
 
 module _ (nodes constants : List ℕ) where
   operand_halts : (n id : ℕ) (x : Interval) → Frugal (refine_operand nodes constants n id x)

@@ -1,3 +1,4 @@
 pub mod CodeLaws
 pub mod Place
 pub mod Rule
+pub mod Framed

@@ -1,69 +1,51 @@
--- A search that finds its place first and pays afterwards: the place, over the test, and that the charges come to those of `nearest`.
+-- A search that finds its place first and pays afterwards: the place is that of the library's `position`, and the charges come to those of `nearest`.
 use Prim.Native.Nat.{ℕ, suc, ◌+◌, ◌≤◌, ◌<◌}
 use native.Mathlib.Omega.{arith}
 use native.Mathlib.Numerals.{add-one}
-use mathlib.Core.Path.{◌≡◌, sym, ap, ◌∙◌}
-use mathlib.Core.Bool.{Bool, true, false, cond}
+use mathlib.Core.Path.{◌≡◌, refl, ◌∙◌}
+use mathlib.Core.Bool.{Bool, true, false, cond, not}
 use mathlib.Core.List.{List, [], ◌∷◌}
 use lib.IntN.{ℤ}
 use lib.Signed.{le_z}
-use lib.ListN.{length, get_or, drop, drop_of_length-le}
-use mir.Syntax.{w32}
-use mir.Val.{SFits, to_z, of_z}
-use mir.Facts.{to_z-of_z}
-use Rattle.limits.specs.declared.Resource.TheVariants.{Work}
+use lib.ListN.{length, get_or}
+use borrow.Author.Tests.{ltb-false}
+use lib.Dec.{ltb}
+use Rattle.std.specs.List.{position_or_len}
+use Rattle.std.specs.Prelude.{Option, Some, None, unwrap_or}
 use Rattle.limits.specs.declared.Stop.{Stop}
-use Rattle.limits.specs.declared.Charged.{Charged}
-use Rattle.limits.specs.declared.Charged.TheVariants.{Paid}
-use Rattle.limits.specs.declared.Charged.TheVariants as charged
-use Rattle.limits.specs.Charge.{units_of}
-use Rattle.limits.specs.Metered.{pure, ◌>>◌}
+use Rattle.limits.specs.Metered.{going, stopped, pure, ◌>>◌}
 use Rattle.limits.specs.declared.Meter.{Meter}
 use Rattle.limits.specs.Meter.{work, units}
 use Rattle.limits.proofs.Monad.{then_on, then_stop, pure_is}
-use Rattle.limits.proofs.Units.{units_paid, units_stopped, units_more, units_nothing}
-use Rattle.widening.specs.declared.Moved.{Moved}
-use Rattle.widening.specs.declared.Moved.TheVariants.{To}
-use Rattle.widening.specs.declared.Moved.TheVariants as moved
-use Rattle.widening.specs.Widening.{nearest, first_of, paid_for, above}
-use Rattle.widening.specs.Answers.{Moves}
-use Rattle.widening.proofs.CodeLaws.{bottom_first}
+use Rattle.limits.proofs.Units.{units_more, units_nothing}
+use Rattle.widening.specs.Widening.{nearest, first_of, above}
 
--- ---- the place
+pub first_is : (test : ℤ → Bool) (l : List ℤ) → position_or_len test l ≡ first_of test l
+unfolding first_of
+first_is test [] = refl
+first_is test (t ∷ l) = by_case (test t) (first_is test l)
+  where
+    by_case : (b : Bool) → position_or_len test l ≡ first_of test l → cond (not b) (1 + position_or_len test l) 0 ≡ cond b 0 (suc (first_of test l))
+    by_case true e = refl
+    by_case false e = omega (arith, e)
 
-module _ (test : ℤ → Bool) (l : List ℤ) where
-  -- the place n is not before i
-  pub record Ahead (n i : ℕ) : Type 0 where
-    pub is : n ≡ i + first_of test (drop i l)
+first_within : (test : ℤ → Bool) (l : List ℤ) → first_of test l ≤ length l
+unfolding first_of
+first_within test [] = omega arith
+first_within test (t ∷ l) = by_case (test t) (first_within test l)
+  where
+    by_case : (b : Bool) → first_of test l ≤ length l → cond b 0 (suc (first_of test l)) ≤ suc (length l)
+    by_case true h = omega arith
+    by_case false h = omega arith
 
-  pub ahead_begins : Ahead (first_of test l) 0
-  ahead_begins = record { is = omega arith }
-
-  module _ {n i : ℕ} (h : Ahead n i) where
-    pub ahead_none : length l ≤ i → i ≡ n
-    unfolding first_of
-    ahead_none k =
-        let e : first_of test (drop i l) ≡ 0 = ap (first_of test) (drop_of_length-le l k) in
-        omega (arith, h.is)
-
-    pub ahead_ends : {r : ℕ} → r ≡ i + first_of test (drop i l) → r ≡ n
-    ahead_ends e = e ∙ sym h.is
-
-    -- the item at i
-    module _ (z : ℤ) {y : ℤ} (k : i < length l) (q : y ≡ get_or l i z) where
-      first : first_of test (drop i l) ≡ cond (test y) 0 (suc (first_of test (drop (i + 1) l)))
-      unfolding first_of
-      first = ap (first_of test) (bottom_first l z k) ∙ rw q
-
-      pub ahead_here : test y ≡ true → i ≡ n
-      ahead_here b =
-          let e : first_of test (drop i l) ≡ 0 = first ∙ rw b in
-          omega (arith, h.is)
-
-      pub ahead_past : {j : ℕ} → i + 1 ≡ j → test y ≡ false → Ahead n j
-      ahead_past p b =
-          let e : first_of test (drop i l) ≡ suc (first_of test (drop (i + 1) l)) = first ∙ rw b in
-          rw (← p) (record { is = omega (arith, h.is) })
+-- where the library's `position` ends, or the number of items
+pub position_is : (test : ℤ → Bool) (l : List ℤ) {r : Option ℕ} → r ≡ cond (ltb (position_or_len test l) (length l)) (Some (position_or_len test l)) None →
+    unwrap_or r (length l) ≡ first_of test l
+position_is test l e = rw (e, first_is test l) (by_case (ltb (first_of test l) (length l)) refl)
+  where
+    by_case : (b : Bool) → ltb (first_of test l) (length l) ≡ b → unwrap_or (cond b (Some (first_of test l)) None) (length l) ≡ first_of test l
+    by_case true h = refl
+    by_case false h = omega (arith, ltb-false (first_of test l) (length l) h, first_within test l)
 
 -- ---- what it pays
 
@@ -92,32 +74,25 @@ module _ (beyond : ℤ → Bool) (end : ℤ) where
 
 -- ---- the code's answers
 
-module _ (looked w mw : ℕ) (end : ℤ) {x : Charged} (c : x ≡ units_of Work w looked mw) where
-  pub pays_stopped : {stop : Stop} {n : ℕ} → x ≡ charged.Stopped stop n → Moves (paid_for looked end) w mw (moved.Stopped stop n)
-  unfolding paid_for
-  pays_stopped k = record { at = λ e me. then_stop _ _ _ (units_stopped mw e me looked w c k) }
+module _ (high : ℤ) (l : List ℤ) {n : ℕ} (p : n ≡ first_of (le_z high) l) (m : Meter) where
+  module _ (z : ℤ) (k : n < length l) where
+    found : (units (n + 1) >> pure (get_or l n z)) m ≡ above l high m
+    unfolding above
+    found = rw (add-one, p) (nearest_found (le_z high) high z l m (rw p at k))
 
-  pub pays_to : {z : ℤ} {n : ℕ} → x ≡ Paid n → z ≡ end → Moves (paid_for looked end) w mw (To z n)
-  unfolding paid_for
-  pays_to k q = rw q (record { at = λ e me. then_on _ _ _ (units_paid mw e me looked w c k) (pure_is _ _) })
+    pub above_found : {t : Meter} → going tt t ≡ units (n + 1) m → going (get_or l n z) t ≡ above l high m
+    above_found h = then_on (units (n + 1)) m (pure (get_or l n z)) h (pure_is _ _) ∙ found
 
--- the end that is sought stands as the code holds it
-module _ {high : ℤ} (f : SFits w32 high) (l : List ℤ) where
-  pub from_is : (from : ℕ) {i : ℕ} → i ≡ from + first_of (le_z (to_z w32 (of_z w32 high))) l → i ≡ from + first_of (le_z high) l
-  from_is from h = rw (to_z-of_z f) at h
+    pub found_stopped : {s : Stop} {t : Meter} → stopped s t ≡ units (n + 1) m → stopped s t ≡ above l high m
+    found_stopped h = then_stop (units (n + 1)) m (pure (get_or l n z)) h ∙ found
 
-  pub place_is : {i : ℕ} → i ≡ first_of (le_z (to_z w32 (of_z w32 high))) l → i ≡ first_of (le_z high) l
-  place_is h = rw (to_z-of_z f) at h
+  module _ (k : length l ≤ n) where
+    missed : (units n >> pure high) m ≡ above l high m
+    unfolding above
+    missed = rw p (nearest_none (le_z high) high l m (rw p at k))
 
-  module _ {n w mw : ℕ} (p : n ≡ first_of (le_z (to_z w32 (of_z w32 high))) l) {r : Moved} where
-    pub above_found : (z : ℤ) {y : ℤ} → n < length l → y ≡ get_or l n z → Moves (paid_for (n + 1) y) w mw r → Moves (above l high) w mw r
-    unfolding above paid_for
-    above_found z k q m =
-        let e : n ≡ first_of (le_z high) l = place_is p in
-        record { at = λ en me. m.at en me ∙ rw (add-one, q, e) (nearest_found (le_z high) high z l _ (rw e at k)) }
+    pub above_none : {t : Meter} → going tt t ≡ units n m → going high t ≡ above l high m
+    above_none h = then_on (units n) m (pure high) h (pure_is _ _) ∙ missed
 
-    pub above_none : length l ≤ n → Moves (paid_for n (to_z w32 (of_z w32 high))) w mw r → Moves (above l high) w mw r
-    unfolding above paid_for
-    above_none k m =
-        let e : n ≡ first_of (le_z high) l = place_is p in
-        record { at = λ en me. m.at en me ∙ rw (to_z-of_z f, e) (nearest_none (le_z high) high l _ (rw e at k)) }
+    pub none_stopped : {s : Stop} {t : Meter} → stopped s t ≡ units n m → stopped s t ≡ above l high m
+    none_stopped h = then_stop (units n) m (pure high) h ∙ missed

@@ -23,8 +23,8 @@ use Rattle.limits.proofs.Monad.{Ensures, Steady, by_pure, by_test, weaken, bind,
 use Rattle.limits.proofs.Live.{Lives, live_pure, live_test, live_bind, live_then, live_work}
 use Rattle.interval.specs.declared.Interval.{Interval}
 use Rattle.interval.specs.declared.Interval.TheVariants.{Bottom, Bounded, Unbounded}
-use Rattle.interval.specs.declared.Endpoints.{Endpoints}
-use Rattle.interval.specs.declared.Endpoints.TheVariants.{Nothing, Between}
+use Rattle.std.specs.Prelude.{Option, Some, None}
+use Rattle.std.proofs.lemmas.Option.{some_pair_parts}
 use Rattle.interval.specs.Interval.{cousot, endpoints_of}
 use Rattle.interval.specs.Proper.{Proper}
 use Rattle.interval.specs.Cousot.{◌∋◌}
@@ -230,17 +230,20 @@ module _ {s : Which} {thresholds : List ℤ} {old new : ℤ} {n : ℕ} where
 
 -- ---- both sides
 
-module _ (thresholds : List ℤ) (next : Interval) (g : Growth) where
-  data Ways : Endpoints → Endpoints → Wide → Type 0 where
-    from_nothing : {n : Endpoints} → Ways Nothing n (wide next g)
-    to_nothing : {a b : ℤ} → Ways (Between a b) Nothing (wide next g)
-    both : {a b c d : ℤ} {l h : Side} → Becomes lower thresholds a c g.low l → Becomes upper thresholds b d g.high h →
-        Ways (Between a b) (Between c d) (wide (with_ends next l.end h.end) (growth l.grown h.grown))
+ends_same : {a b c d : ℤ} {o : Option (ℤ × ℤ)} → o ≡ Some (a, b) → o ≡ Some (c, d) → (a ≡ c) × (b ≡ d)
+ends_same e f = some_pair_parts _ _ _ _ (sym e ∙ f)
 
-  ends_ways : (p n : Endpoints) → Ensures (Ways p n) (widen_ends thresholds next g p n)
-  ends_ways Nothing n = by_pure _ from_nothing
-  ends_ways (Between a b) Nothing = by_pure _ to_nothing
-  ends_ways (Between a b) (Between c d) = bind (low_becomes thresholds a c g.low) (λ l p. bind (high_becomes thresholds b d g.high) (λ h q. by_pure _ (both p q)))
+module _ (thresholds : List ℤ) (next : Interval) (g : Growth) where
+  data Ways : Option (ℤ × ℤ) → Option (ℤ × ℤ) → Wide → Type 0 where
+    from_nothing : {n : Option (ℤ × ℤ)} → Ways None n (wide next g)
+    to_nothing : {a b : ℤ} → Ways (Some (a, b)) None (wide next g)
+    both : {a b c d : ℤ} {l h : Side} → Becomes lower thresholds a c g.low l → Becomes upper thresholds b d g.high h →
+        Ways (Some (a, b)) (Some (c, d)) (wide (with_ends next l.end h.end) (growth l.grown h.grown))
+
+  ends_ways : (p n : Option (ℤ × ℤ)) → Ensures (Ways p n) (widen_ends thresholds next g p n)
+  ends_ways None n = by_pure _ from_nothing
+  ends_ways (Some (a, b)) None = by_pure _ to_nothing
+  ends_ways (Some (a, b)) (Some (c, d)) = bind (low_becomes thresholds a c g.low) (λ l p. bind (high_becomes thresholds b d g.high) (λ h q. by_pure _ (both p q)))
 
 module _ (thresholds : List ℤ) (previous next : Interval) (g : Growth) where
   ways : Ensures (Ways thresholds next g (endpoints_of previous) (endpoints_of next)) (widen thresholds previous next g)
@@ -249,7 +252,7 @@ module _ (thresholds : List ℤ) (previous next : Interval) (g : Growth) where
 
   -- ---- 01's rule
 
-  by_rule : Rising thresholds → {p n : Endpoints} {w : Wide} → endpoints_of previous ≡ p → endpoints_of next ≡ n → Ways thresholds next g p n w → ByRule thresholds previous next g w
+  by_rule : Rising thresholds → {p n : Option (ℤ × ℤ)} {w : Wide} → endpoints_of previous ≡ p → endpoints_of next ≡ n → Ways thresholds next g p n w → ByRule thresholds previous next g w
   by_rule r ep en from_nothing = record {
     empty = λ _. refl;
     counts = λ e _. let z : ◌≡◌ {A = ℕ} 0 1 = cc in absurd (omega arith);
@@ -268,17 +271,17 @@ module _ (thresholds : List ℤ) (previous next : Interval) (g : Growth) where
         (λ k. let f = ap endpoints_of k in let z : ◌≡◌ {A = ℕ} 0 1 = cc in absurd (omega arith))
         e;
     counts = λ {a = a'} {b = b'} {c = c'} {d = d'} e f.
-        let ea : a ≡ a' = cc in
-        let eb : b ≡ b' = cc in
-        let ec : c ≡ c' = cc in
-        let ed : d ≡ d' = cc in
+        let ea : a ≡ a' = (ends_same ep e).0 in
+        let eb : b ≡ b' = (ends_same ep e).1 in
+        let ec : c ≡ c' = (ends_same en f).0 in
+        let ed : d ≡ d' = (ends_same en f).1 in
         record { low = rw (ea, ec) at (side_counted p); high = rw (eb, ed) at (side_counted q) };
     places = λ {a = a'} {b = b'} {c = c'} {d = d'} e k.
         let f = ap endpoints_of k in
-        let ea : a ≡ a' = cc in
-        let eb : b ≡ b' = cc in
-        let ec : c ≡ c' = cc in
-        let ed : d ≡ d' = cc in
+        let ea : a ≡ a' = (ends_same ep e).0 in
+        let eb : b ≡ b' = (ends_same ep e).1 in
+        let ec : c ≡ c' = (ends_same en f).0 in
+        let ed : d ≡ d' = (ends_same en f).1 in
         record { low = l.end; high = h.end; is = rw k; lows = rw (ea, ec) at (side_placed r p); highs = rw (eb, ed) at (side_placed r q) };
     unbounded = λ k. rw k;
   }
@@ -292,22 +295,22 @@ module _ (thresholds : List ℤ) (previous next : Interval) (g : Growth) where
   unfolding widen pure
   widen_empty e m = ⊎_elim (λ k. rw k) (λ k. rw k (to_bottom (endpoints_of previous))) e
     where
-      to_bottom : (p : Endpoints) → widen_ends thresholds Bottom g p Nothing m ≡ going (wide Bottom g) m
-      to_bottom Nothing = refl
-      to_bottom (Between a b) = refl
+      to_bottom : (p : Option (ℤ × ℤ)) → widen_ends thresholds Bottom g p None m ≡ going (wide Bottom g) m
+      to_bottom None = refl
+      to_bottom (Some (a, b)) = refl
 
   -- ---- whatever the thresholds are, every number of the new interval is in the result
 
-  have : {p n : Endpoints} {w : Wide} → endpoints_of next ≡ n → Ways thresholds next g p n w → (k : ℤ) → cousot next ∋ k → cousot w.interval ∋ k
+  have : {p n : Option (ℤ × ℤ)} {w : Wide} → endpoints_of next ≡ n → Ways thresholds next g p n w → (k : ℤ) → cousot next ∋ k → cousot w.interval ∋ k
   have en from_nothing k m = m
   have en to_nothing k m = m
   have en (both {c = c} {d = d} {l = l} {h = h} p q) k m = go next en m
     where
-      go : (i : Interval) → endpoints_of i ≡ Between c d → cousot i ∋ k → cousot (with_ends i l.end h.end) ∋ k
+      go : (i : Interval) → endpoints_of i ≡ Some (c, d) → cousot i ∋ k → cousot (with_ends i l.end h.end) ∋ k
       go Bottom e m = m
       go (Bounded x y) e m =
-          let ex : c ≡ x = cc in
-          let ey : d ≡ y = cc in
+          let ex : c ≡ x = (ends_same e refl).0 in
+          let ey : d ≡ y = (ends_same e refl).1 in
           let lo : Le l.end x = rw ex at (side_beyond p) in
           let hi : Le y h.end = rw ey at (side_beyond q) in
           (omega (arith, m.0), omega (arith, m.1))
@@ -319,16 +322,16 @@ module _ (thresholds : List ℤ) (previous next : Interval) (g : Growth) where
 -- ---- and its ends are numbers of 32 bits that ascend, if those of the new interval are and the thresholds are numbers
 
 module _ (thresholds : List ℤ) (previous next : Interval) (g : Growth) where
-  proper : All Number thresholds → Proper next → {p n : Endpoints} {w : Wide} → endpoints_of next ≡ n → Ways thresholds next g p n w → Proper w.interval
+  proper : All Number thresholds → Proper next → {p n : Option (ℤ × ℤ)} {w : Wide} → endpoints_of next ≡ n → Ways thresholds next g p n w → Proper w.interval
   proper a i en from_nothing = i
   proper a i en to_nothing = i
   proper a i en (both {c = c} {d = d} {l = l} {h = h} p q) = go next i en
     where
-      go : (i : Interval) → Proper i → endpoints_of i ≡ Between c d → Proper (with_ends i l.end h.end)
+      go : (i : Interval) → Proper i → endpoints_of i ≡ Some (c, d) → Proper (with_ends i l.end h.end)
       go Bottom k e = tt
       go (Bounded x y) k e =
-          let ex : x ≡ c = cc in
-          let ey : y ≡ d = cc in
+          let ex : x ≡ c = (ends_same refl e).0 in
+          let ey : y ≡ d = (ends_same refl e).1 in
           let lo = side_beyond p in
           let hi = side_beyond q in
           let o : Le c d = rw (ex, ey) at k.1.1 in
@@ -362,10 +365,10 @@ module _ (thresholds : List ℤ) (previous next : Interval) (g : Growth) where
   unfolding widen widen_low widen_high below above
   widen_steady = go (endpoints_of previous) (endpoints_of next)
     where
-      go : (p n : Endpoints) → Steady (widen_ends thresholds next g p n)
-      go Nothing n = steady_pure _
-      go (Between a b) Nothing = steady_pure _
-      go (Between a b) (Between c d) =
+      go : (p n : Option (ℤ × ℤ)) → Steady (widen_ends thresholds next g p n)
+      go None n = steady_pure _
+      go (Some (a, b)) None = steady_pure _
+      go (Some (a, b)) (Some (c, d)) =
           steady_bind (grow_steady (le_z a c) c g.low (nearest_steady (λ t. le_z t c) c (reverse thresholds)))
           (λ l. steady_bind (grow_steady (le_z d b) d g.high (nearest_steady (λ t. le_z d t) d thresholds)) (λ h. steady_pure _))
 
@@ -373,10 +376,10 @@ module _ (thresholds : List ℤ) (previous next : Interval) (g : Growth) where
   unfolding widen widen_low widen_high below above
   widen_lives = go (endpoints_of previous) (endpoints_of next)
     where
-      go : (p n : Endpoints) → Lives 0 (λ _. 0) (widen_ends thresholds next g p n)
-      go Nothing n = live_pure 0 _ refl
-      go (Between a b) Nothing = live_pure 0 _ refl
-      go (Between a b) (Between c d) =
+      go : (p n : Option (ℤ × ℤ)) → Lives 0 (λ _. 0) (widen_ends thresholds next g p n)
+      go None n = live_pure 0 _ refl
+      go (Some (a, b)) None = live_pure 0 _ refl
+      go (Some (a, b)) (Some (c, d)) =
           live_bind (grow_lives (le_z a c) c g.low (nearest_lives (λ t. le_z t c) c (reverse thresholds)))
           (λ l. live_bind (grow_lives (le_z d b) d g.high (nearest_lives (λ t. le_z d t) d thresholds)) (λ h. live_pure 0 _ refl))
 
@@ -445,13 +448,13 @@ module _ {thresholds : List ℤ} {g : Growth} {v w : Wide} where
   pub rule_one : (previous next : Interval) → ByRule thresholds previous next g v → ByRule thresholds previous next g w → v ≡ w
   rule_one previous next p q = go previous next p q
     where
-      sides : (i j : Interval) {a b c d : ℤ} → ByRule thresholds i j g v → ByRule thresholds i j g w → endpoints_of i ≡ Between a b → endpoints_of j ≡ Between c d → v.interval ≡ w.interval → v ≡ w
+      sides : (i j : Interval) {a b c d : ℤ} → ByRule thresholds i j g v → ByRule thresholds i j g w → endpoints_of i ≡ Some (a, b) → endpoints_of j ≡ Some (c, d) → v.interval ≡ w.interval → v ≡ w
       sides i j p q e f h =
           let m = p.counts e f in
           let n = q.counts e f in
           same_wide v w h (one_count m.low n.low) (one_count m.high n.high)
 
-      bounded : (i : Interval) {a b c d : ℤ} → endpoints_of i ≡ Between a b → ByRule thresholds i (Bounded c d) g v → ByRule thresholds i (Bounded c d) g w → v ≡ w
+      bounded : (i : Interval) {a b c d : ℤ} → endpoints_of i ≡ Some (a, b) → ByRule thresholds i (Bounded c d) g v → ByRule thresholds i (Bounded c d) g w → v ≡ w
       bounded i {c = c} {d = d} e p q =
           let m = p.places e refl in
           let n = q.places e refl in
@@ -459,7 +462,7 @@ module _ {thresholds : List ℤ} {g : Growth} {v w : Wide} where
           let y = one_end m.highs n.highs in
           sides i (Bounded c d) p q e refl (m.is ∙ (rw (x, y) (sym n.is)))
 
-      unbounded : (i : Interval) {a b : ℤ} → endpoints_of i ≡ Between a b → ByRule thresholds i Unbounded g v → ByRule thresholds i Unbounded g w → v ≡ w
+      unbounded : (i : Interval) {a b : ℤ} → endpoints_of i ≡ Some (a, b) → ByRule thresholds i Unbounded g v → ByRule thresholds i Unbounded g w → v ≡ w
       unbounded i e p q = sides i Unbounded p q e refl (p.unbounded refl ∙ sym (q.unbounded refl))
 
       go : (i j : Interval) → ByRule thresholds i j g v → ByRule thresholds i j g w → v ≡ w

@@ -2,12 +2,11 @@
 -- nothing else does is `rule_one`.
 --   "Widening: if either interval is empty the new one is returned, uncounted. A side that grows is counted the first two times; later it
 --   moves to the nearest threshold at or beyond it. An Unbounded new interval is kept, though sides are counted."
-use Rattle.std.specs.Prelude.{ℕ, ◌+◌, ◌≤◌, ◌<◌, ◌≡◌, ◌⊎◌, ℤ, pos, length, get_or}
+use Rattle.std.specs.Prelude.{ℕ, ◌+◌, ◌≤◌, ◌<◌, ◌≡◌, ◌⊎◌, ℤ, pos, length, get_or, Some}
 use mathlib.Core.List.{List, Memᴰ}
 use Rattle.integers.specs.Order.{Le, Lt}
 use Rattle.interval.specs.declared.Interval.{Interval}
 use Rattle.interval.specs.declared.Interval.TheVariants.{Bottom, Bounded, Unbounded}
-use Rattle.interval.specs.declared.Endpoints.TheVariants.{Between}
 use Rattle.interval.specs.Interval.{endpoints_of}
 use Rattle.widening.specs.declared.Growth.{Growth}
 use Rattle.widening.specs.Widening.{Wide, wide}
@@ -77,7 +76,7 @@ pub record ByRule (thresholds : List ℤ) (previous next : Interval) (g : Growth
   -- "if either interval is empty the new one is returned, uncounted"
   pub empty : (previous ≡ Bottom) ⊎ (next ≡ Bottom) → w ≡ wide next g
   -- the sides, of two intervals that are not empty
-  pub counts : {a b c d : ℤ} → endpoints_of previous ≡ Between a b → endpoints_of next ≡ Between c d → BothCounted a b c d g w.growth
-  pub places : {a b c d : ℤ} → endpoints_of previous ≡ Between a b → next ≡ Bounded c d → BothPlaced thresholds a b c d g w.interval
+  pub counts : {a b c d : ℤ} → endpoints_of previous ≡ Some (a, b) → endpoints_of next ≡ Some (c, d) → BothCounted a b c d g w.growth
+  pub places : {a b c d : ℤ} → endpoints_of previous ≡ Some (a, b) → next ≡ Bounded c d → BothPlaced thresholds a b c d g w.interval
   -- "An Unbounded new interval is kept, though sides are counted"
   pub unbounded : next ≡ Unbounded → w.interval ≡ Unbounded

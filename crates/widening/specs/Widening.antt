@@ -1,17 +1,17 @@
 -- `widen` of engine.rs with its charges, and how often the sides of each argument have grown. That this is 01's rule is proofs/Rule.antt.
-use Rattle.std.specs.Prelude.{ℕ, zero, suc, ◌+◌, ◌*◌, Bool, cond, List, [], ◌∷◌, reverse, ltb, ℤ, get_or}
+use Rattle.std.specs.Prelude.{ℕ, zero, suc, ◌+◌, ◌*◌, Bool, cond, List, [], ◌∷◌, reverse, ltb, ℤ, get_or, Option, Some, None}
 use Rattle.std.specs.Int.Signed.{le_z}
 use Rattle.std.proofs.lemmas.List.Edits.{sets}
 use Rattle.limits.specs.declared.Stop.{Stop}
 use Rattle.limits.specs.Metered.{Metered, pure, ◌>>=◌, ◌>>◌}
 use Rattle.limits.specs.declared.Meter.{Meter}
-use Rattle.limits.specs.Meter.{work, units}
+use Rattle.limits.specs.Meter.{work}
 use Rattle.interval.specs.declared.Interval.{Interval}
 use Rattle.interval.specs.declared.Interval.TheVariants.{Bottom, Bounded, Unbounded}
-use Rattle.interval.specs.declared.Endpoints.{Endpoints}
-use Rattle.interval.specs.declared.Endpoints.TheVariants.{Nothing, Between}
 use Rattle.interval.specs.Interval.{endpoints_of}
 use Rattle.widening.specs.declared.Growth.{Growth}
+pub use Rattle.widening.specs.declared.Side.{Side}
+pub use Rattle.widening.specs.declared.Wide.{Wide}
 
 abbrev pub growth : ℕ → ℕ → Growth
 growth low high = record { low = low; high = high }
@@ -19,10 +19,6 @@ growth low high = record { low = low; high = high }
 -- ---- one side
 
 -- an end, and how often it has grown
-pub record Side : Type 0 where
-  pub end : ℤ
-  pub grown : ℕ
-
 abbrev pub side : ℤ → ℕ → Side
 side z n = record { end = z; grown = n }
 
@@ -35,10 +31,6 @@ nearest beyond end (t ∷ l) = work 1 >> cond (beyond t) (pure t) (nearest beyon
 unfoldable pub first_of : (ℤ → Bool) → List ℤ → ℕ
 first_of test [] = 0
 first_of test (t ∷ l) = cond (test t) 0 (suc (first_of test l))
-
--- an end, and a unit of work for each of n thresholds that were looked at
-unfoldable pub paid_for : ℕ → ℤ → Metered Stop Meter ℤ
-paid_for n end = units n >> pure end
 
 -- sought from the top
 unfoldable pub below : List ℤ → ℤ → Metered Stop Meter ℤ
@@ -60,10 +52,6 @@ widen_high thresholds old high grown = grow (le_z high old) high grown (above th
 
 -- ---- both sides
 
-pub record Wide : Type 0 where
-  pub interval : Interval
-  pub growth : Growth
-
 abbrev pub wide : Interval → Growth → Wide
 wide i g = record { interval = i; growth = g }
 
@@ -74,10 +62,10 @@ with_ends (Bounded a b) low high = Bounded low high
 with_ends Unbounded low high = Unbounded
 
 -- 01: "if either interval is empty the new one is returned, uncounted"
-abbrev pub widen_ends : List ℤ → Interval → Growth → Endpoints → Endpoints → Metered Stop Meter Wide
-widen_ends thresholds next g Nothing new = pure (wide next g)
-widen_ends thresholds next g (Between old_low old_high) Nothing = pure (wide next g)
-widen_ends thresholds next g (Between old_low old_high) (Between low high) = do
+abbrev pub widen_ends : List ℤ → Interval → Growth → Option (ℤ × ℤ) → Option (ℤ × ℤ) → Metered Stop Meter Wide
+widen_ends thresholds next g None new = pure (wide next g)
+widen_ends thresholds next g (Some (old_low, old_high)) None = pure (wide next g)
+widen_ends thresholds next g (Some (old_low, old_high)) (Some (low, high)) = do
   l ← widen_low thresholds old_low low g.low
   h ← widen_high thresholds old_high high g.high
   pure (wide (with_ends next l.end h.end) (growth l.grown h.grown))

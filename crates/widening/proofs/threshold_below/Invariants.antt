@@ -1,14 +1,11 @@
 -- `widening::threshold_below` meets its contract.
-use Prim.Native.Nat.{◌≤◌}
 use mathlib.Core.List.{reverse}
 use lib.Signed.{le_z}
-use lib.ListN.{length, take}
-use Rattle.widening.proofs.CodeLaws.{Seeking}
+use Rattle.limits.proofs.Onward.{Onward}
+use Rattle.widening.specs.Widening.{nearest}
 use Rattle.widening.proofs.threshold_below.Given as goal
 
-abbrev pub invariant-loop-i : goal.invariant-loop-i
-invariant-loop-i l =
-    (l.i ≤ length l.thresholds) × Seeking (λ t. le_z t l.low) l.low (reverse l.thresholds) l.work l.max_work (reverse (take l.i l.thresholds)) l.spent
-
-abbrev pub decreases-loop-i : goal.decreases-loop-i
-decreases-loop-i l = l.i
+-- what is left of the search are the thresholds that the iterator has left, the last of them first
+abbrev pub invariant-loop-threshold : goal.invariant-loop-threshold
+invariant-loop-threshold l =
+    Onward (nearest (λ t. le_z t l.low) l.low (reverse l.thresholds)) l.initial.meter (nearest (λ t. le_z t l.low) l.low (reverse l.threshold-iterator.iter.rest.now)) l.meter

@@ -1,28 +1,45 @@
 -- `widening::widen_low` meets its contract.
-use borrow.Author.Rules.{rules}
+use Rattle.std.proofs.Common.{rules, SFits, w32}
+use Rattle.std.proofs.lemmas.Int.{to_z-of_z}
 use lib.Signed.{le_z}
-use mir.Syntax.{w32}
-use mir.Val.{SFits}
-use mir.Facts.{to_z-of_z}
+use Rattle.limits.proofs.Answering.{went, broke, exits}
 use Rattle.widening.specs.Widening.{below, widen_low}
 use Rattle.widening.proofs.CodeLaws.{side_stays, side_counted, side_stops, side_moves}
 use Rattle.widening.proofs.widen_low.Goals as goal
 
 pub returns-then-old-low : goal.returns-then-old-low
 unfolding widen_low
-returns-then-old-low c = side_stays le_z (below c.args.thresholds.now) c.ranges.old c.ranges.low _ _ _ c.if-old-low.true
+returns-then-old-low c =
+    let a = c.args in
+    let o = c.ranges.old in
+    let e = c.ranges.low in
+    simp to_z-of_z (side_stays (le_z c.args.old c.args.low) a.low a.grown (below a.thresholds.now a.low) a.meter.now (simp to_z-of_z at c.if-old-low.true))
 
 pub returns-then-grown-lt2 : goal.returns-then-grown-lt2
 unfolding widen_low
-returns-then-grown-lt2 c = side_counted le_z (below c.args.thresholds.now) c.ranges.old c.ranges.low _ _ _ c.if-old-low.false c.if-grown-lt2.true
+returns-then-grown-lt2 c =
+    let a = c.args in
+    let o = c.ranges.old in
+    let e = c.ranges.low in
+    simp to_z-of_z (side_counted (le_z c.args.old c.args.low) a.low a.grown (below a.thresholds.now a.low) a.meter.now (simp to_z-of_z at c.if-old-low.false) c.if-grown-lt2.true)
 
-pub returns-in-Stopped : goal.returns-in-Stopped
+pub returns-in_err-end : goal.returns-in_err-end
 unfolding widen_low
-returns-in-Stopped c =
-    side_stops le_z (below c.args.thresholds.now) c.ranges.old c.ranges.low _ _ _ c.if-old-low.false c.if-grown-lt2.false c.threshold_below.ensures c.in-Stopped.is
+returns-in_err-end c =
+    let a = c.args in
+    let o = c.ranges.old in
+    let e = c.ranges.low in
+    exits c.from_residual.result c.from_residual.ensures.1
+    (side_stops (le_z c.args.old c.args.low) a.low a.grown (below a.thresholds.now a.low) a.meter.now (simp to_z-of_z at c.if-old-low.false) c.if-grown-lt2.false
+    (simp to_z-of_z at (broke c.threshold_below.ensures c.in_err-end.was)))
 
-pub returns-in-To : goal.returns-in-To
+pub returns : goal.returns
 unfolding widen_low
-returns-in-To c =
-    let f : SFits w32 c.in-To.end = search rules in
-    side_moves le_z (below c.args.thresholds.now) c.ranges.old c.ranges.low _ _ _ c.if-old-low.false c.if-grown-lt2.false c.threshold_below.ensures c.in-To.is (to_z-of_z f)
+returns c =
+    let a = c.args in
+    let o = c.ranges.old in
+    let e = c.ranges.low in
+    let f : SFits w32 c.in_ok-end.end = search rules in
+    simp to_z-of_z
+    (side_moves (le_z c.args.old c.args.low) a.low a.grown (below a.thresholds.now a.low) a.meter.now (simp to_z-of_z at c.if-old-low.false) c.if-grown-lt2.false
+    (simp to_z-of_z at (went c.threshold_below.ensures c.in_ok-end.was)))

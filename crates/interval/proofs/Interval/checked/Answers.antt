@@ -1,15 +1,14 @@
 -- `interval::Interval::checked` meets its contract.
-use mir.Facts.{to_z-of_z}
-use Rattle.integers.proofs.Bits.{read₂, sf32}
-use Rattle.interval.specs.Interval.{ascending_of}
+use Rattle.std.proofs.Common.{arith, ℤ, w32, w64, to_z, of_z}
+use Rattle.std.proofs.lemmas.Int.{to_z-of_z, ints, clamps}
 use Rattle.interval.proofs.CodeLaws.{all_above, all_below, cut}
 use Rattle.interval.proofs.Interval.checked.Goals as goal
+use Rattle.interval.proofs.Interval.checked.Goals.{then-greatest-low-via-then-greatest-low, then-greatest-low-via-else-greatest-low+then-high-least}
 
-pub returns-then-low-gt2147483647 : goal.returns-then-low-gt2147483647
-returns-then-low-gt2147483647 c = all_above c.ranges.low c.ranges.high c.if-low-gt2147483647.true
-
-pub returns-then-high-ltminus2147483648 : goal.returns-then-high-ltminus2147483648
-returns-then-high-ltminus2147483648 c = all_below c.ranges.low c.ranges.high c.if-low-gt2147483647.false c.if-high-ltminus2147483648.true
+pub returns-then-greatest-low : goal.returns-then-greatest-low
+returns-then-greatest-low c = elim c.then-greatest-low.branch [ then-greatest-low-via-then-greatest-low w ↦ all_above _ _ (grind (arith, to_z-of_z)) | then-greatest-low-via-else-greatest-low+then-high-least w ↦ all_below _ _ (grind (arith, to_z-of_z)) ]
 
 pub returns : goal.returns
-returns c = cut c.ranges.low c.ranges.high c.if-low-gt2147483647.false c.if-high-ltminus2147483648.false (rw (to_z-of_z c.ranges.low) at c.clipped.ensures) (rw (to_z-of_z c.ranges.high) at c.clipped-2.ensures) (read₂ (sf32 c.clipped.result c.clipped.type_inv) (sf32 c.clipped-2.result c.clipped-2.type_inv) ascending_of c.ascending.ensures)
+returns c =
+    let held : ℤ → ℤ = λ z. to_z w32 (of_z w32 (to_z w64 (of_z w64 z))) in
+    cut _ _ {l = held c.max.result} {h = held c.min.result} (omega (arith, ints, clamps)) (omega (arith, ints, clamps)) c.ascending.ensures
