@@ -99,7 +99,7 @@ fn put_argument(line: &mut [u8], argument: u64, value: Abstract) -> usize
     let bounded = text::put_bound(line, named, bound);
     let apart = text::put_byte(line, bounded, b' ');
     let listed = text::put_list(line, apart, value);
-    let end = text::put_number(line, listed, reason.number() as u64);
+    let end = text::put_number(line, listed, u64::from(lattice::reason_number(reason)));
     text::put_byte(line, end, b'\n')
 }
 
