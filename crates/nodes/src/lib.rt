@@ -123,8 +123,8 @@ fn word_at(cells: &[u64], i: usize) -> u64
 fn put_word(cells: &mut [u64], i: usize, word: u64)
     ensures { cells.new ≡ set cells.old i word }
 {
-    if let Some(cell) = cells.get_mut(i) {
-        *cell = word;
+    if i < cells.len() {
+        cells[i] = word;
     }
 }
 
