@@ -13,8 +13,8 @@ use Rattle.limits.proofs.Monad.{bind_stop, bind_on, then_stop, then_on, through_
 use Rattle.limits.proofs.CodeLaws.{drop_on}
 use Rattle.interval.specs.declared.Interval.{Interval}
 use Rattle.interval.specs.declared.Bound.{Bound}
-use Rattle.lattice.specs.declared.Outcome.TheVariants.{Done, Stopped}
-use Rattle.lattice.specs.declared.Made.{Made}
+use Rattle.lattice.specs.declared.bridge.Outcome.TheVariants.{Done, Stopped}
+use Rattle.lattice.specs.declared.bridge.Made.{Made}
 use Rattle.lattice.specs.Value.{Value, value_of}
 use Rattle.lattice.specs.Lattice.{numeric}
 use Rattle.lattice.specs.Answers.{made}

@@ -7,7 +7,7 @@ use Rattle.limits.specs.declared.Meter.{Meter}
 use Rattle.limits.specs.Meter.{dropping}
 use Rattle.interval.specs.declared.Interval.TheVariants.{Unbounded}
 use Rattle.lattice.specs.declared.Widening.TheVariants.{HeadTerm}
-use Rattle.lattice.specs.declared.Reason.TheVariants.{Some}
+use Rattle.std.specs.Prelude.{Some}
 use Rattle.lattice.specs.Value.{Value}
 use Rattle.lattice.specs.Lattice.{top, numeric}
 use Rattle.rows.specs.Row.{entries_of}

@@ -14,7 +14,7 @@ ghost use Rattle.bindings.specs.Answers.{met};
 
 use evaluation::Pair;
 use interval::Interval;
-use lattice::{Abstract, Made, Outcome, Reason, Widening};
+use lattice::{Abstract, Made, Outcome, Widening};
 use limits::{Charged, Resource};
 use rules::{AggregateFunction, Binding};
 use slots::Counted;
@@ -104,8 +104,8 @@ fn aggregate(function: AggregateFunction) -> Abstract
         AggregateFunction::Count => Abstract::numeric(Interval::Unbounded),
         AggregateFunction::Sum => Abstract::numeric(Interval::Unbounded),
         AggregateFunction::SumPlus => Abstract::numeric(Interval::Unbounded),
-        AggregateFunction::Min => Abstract::top(Reason::Some(Widening::HeadTerm)),
-        AggregateFunction::Max => Abstract::top(Reason::Some(Widening::HeadTerm)),
+        AggregateFunction::Min => Abstract::top(Some(Widening::HeadTerm)),
+        AggregateFunction::Max => Abstract::top(Some(Widening::HeadTerm)),
     }
 }
 

@@ -22,16 +22,16 @@ use Rattle.interval.specs.declared.Interval.{Interval}
 use Rattle.interval.specs.declared.Bound.{Bound}
 use Rattle.interval.specs.declared.Interval.TheVariants.{Bottom, Bounded, Unbounded}
 use Rattle.lattice.specs.declared.Widening.{Widening}
-use Rattle.lattice.specs.declared.Outcome.TheVariants.{Done, Stopped}
-use Rattle.lattice.specs.declared.Made.{Made}
+use Rattle.lattice.specs.declared.bridge.Outcome.TheVariants.{Done, Stopped}
+use Rattle.lattice.specs.declared.bridge.Made.{Made}
 use Rattle.lattice.specs.Value.{Value, value_of, value}
 use Rattle.lattice.specs.Constants.{constant_at}
 use Rattle.lattice.specs.Lattice.{numeric, constant, copied, top}
 use Rattle.lattice.specs.Answers.{made, Makes}
-use Rattle.lattice.proofs.CodeLaws.{said_yes, said_no, said_stop}
-use Rattle.lists.specs.declared.Verdict.{Verdict}
-use Rattle.lists.specs.declared.Verdict.TheVariants.{Yes, No}
-use Rattle.lists.specs.declared.Verdict.TheVariants as verdict
+use Rattle.lattice.proofs.Limits.{said_yes, said_no, said_stop}
+use Rattle.lists.specs.declared.bridge.Verdict.{Verdict}
+use Rattle.lists.specs.declared.bridge.Verdict.TheVariants.{Yes, No}
+use Rattle.lists.specs.declared.bridge.Verdict.TheVariants as verdict
 use Rattle.lists.specs.Answers.{Answers}
 use Rattle.rows.specs.Row.{id_of, entries_of, value_at}
 use Rattle.nodes.specs.declared.UnaryOp.{UnaryOp}
@@ -43,7 +43,7 @@ use Rattle.nodes.proofs.NodeLaws.{Below}
 use Rattle.nodes.proofs.Descent.{below, descends}
 use Rattle.refinements.specs.Refinement.{Refinement, refinements_of, restrict}
 use Rattle.refinements.proofs.CodeLaws.{Numeric, restrict_numeric}
-use Rattle.lattice.specs.declared.Reason.TheVariants.{Some}
+use Rattle.std.specs.Prelude.{Some}
 use Rattle.lattice.specs.declared.Abstract.{Abstract}
 use Rattle.evaluation.specs.declared.Combined.TheVariants.{To}
 use Rattle.evaluation.specs.declared.Combined.TheVariants as combination

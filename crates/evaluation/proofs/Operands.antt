@@ -25,14 +25,14 @@ use Rattle.interval.specs.declared.Integrality.TheVariants.{Integer, Mixed}
 use Rattle.interval.specs.Interval.{meet_of}
 use Rattle.interval.specs.Bound.{bottom_of, numeric_of, meet_bound, same_bound}
 use Rattle.interval.specs.declared.Interval.TheVariants.{Bottom, Bounded, Unbounded}
-use Rattle.lattice.specs.declared.Outcome.TheVariants.{Done, Stopped}
-use Rattle.lattice.specs.declared.Made.{Made}
+use Rattle.lattice.specs.declared.bridge.Outcome.TheVariants.{Done, Stopped}
+use Rattle.lattice.specs.declared.bridge.Made.{Made}
 use Rattle.lattice.specs.Value.{Value, value_of, value}
 use Rattle.lattice.specs.Lattice.{numeric, copied, sift, reduce, source, meet_lists, meet, refine}
 use Rattle.lattice.specs.Answers.{made, MadeOf, StopsAt}
 use Rattle.rows.specs.Row.{listed?, list_of, entries_of}
-use Rattle.rows.specs.declared.Copied.{Copied}
-use Rattle.rows.specs.declared.Copied.TheVariants as copying
+use Rattle.rows.specs.declared.bridge.Copied.{Copied}
+use Rattle.rows.specs.declared.bridge.Copied.TheVariants as copying
 use Rattle.rows.specs.Answers.{copied_to}
 use Rattle.refinements.specs.declared.Noted.{Noted}
 use Rattle.refinements.specs.declared.Noted.TheVariants.{At}
@@ -40,7 +40,7 @@ use Rattle.refinements.specs.declared.Noted.TheVariants as noted
 use Rattle.refinements.specs.Refinement.{refinement_at, refinements_of, narrow, restrict, position}
 use Rattle.refinements.specs.Answers.{Places}
 use Rattle.refinements.proofs.CodeLaws.{restrict_stops, restrict_found, restrict_ends}
-use Rattle.lattice.specs.declared.Reason.{Reason}
+use Rattle.lattice.specs.Value.{Reason}
 use Rattle.evaluation.specs.declared.Pair.{Pair}
 use Rattle.evaluation.specs.declared.Pair.TheVariants as pair
 use Rattle.evaluation.specs.declared.Operand.{Operand}

@@ -7,8 +7,8 @@ use Rattle.limits.specs.declared.Meter.{Meter}
 use Rattle.limits.specs.Meter.{meter, released}
 use Rattle.interval.specs.declared.Interval.{Interval}
 use Rattle.interval.specs.declared.Bound.{Bound}
-use Rattle.lattice.specs.declared.Made.{Made}
-use Rattle.lattice.specs.declared.Reason.{Reason}
+use Rattle.lattice.specs.declared.bridge.Made.{Made}
+use Rattle.lattice.specs.Value.{Reason}
 use Rattle.lattice.specs.Value.{Value, value}
 use Rattle.lattice.specs.Lattice.{numeric}
 use Rattle.lattice.specs.Answers.{made}

@@ -10,7 +10,7 @@ use Rattle.interval.specs.declared.Interval.TheVariants.{Bottom, Bounded, Unboun
 use Rattle.interval.specs.Bound.{numeric_of}
 use Rattle.lattice.specs.declared.Widening.{Widening}
 use Rattle.lattice.specs.declared.Widening.TheVariants.{HeadForm}
-use Rattle.lattice.specs.declared.Reason.TheVariants.{Some}
+use Rattle.std.specs.Prelude.{Some}
 use Rattle.lattice.specs.Value.{Value, value}
 use Rattle.lattice.specs.Constants.{constant_at}
 use Rattle.lattice.specs.Lattice.{top, numeric, constant, copied}

@@ -17,7 +17,7 @@ ghost use Rattle.evaluation.specs.Evaluation.{input, known_identity, identical, 
 ghost use Rattle.evaluation.specs.Answers.{Combines, operand_to, sees, SeenOf, PlainOf, Narrows, BoundNarrows, OneFollows, TwoFollow, pair_to, sees_both};
 
 use interval::{Bound, Constant, Integrality, Interval};
-use lattice::{Abstract, Made, Outcome, Reason, Widening};
+use lattice::{Abstract, Made, Outcome, Widening};
 use limits::{Charged, Resource, Stop};
 use lists::Verdict;
 use nodes::{BinaryOp, Expression};
@@ -155,10 +155,10 @@ fn unknown(integer: bool, reason: Widening) -> Abstract
             ids,
             len: value.len,
             kept: value.kept,
-            reason: Reason::Some(reason),
+            reason: Some(reason),
         };
     }
-    Abstract::top(Reason::Some(reason))
+    Abstract::top(Some(reason))
 }
 
 fn constant_value(
@@ -173,7 +173,7 @@ fn constant_value(
 {
     let short = id % 65536;
     let key = lattice::constant_at(constants, short as u16);
-    Abstract::constant(short as u16, key, width, work, entries, max_entries)
+    Abstract::constant_counted(short as u16, key, width, work, entries, max_entries)
 }
 
 // What is known of an expression narrows its value, once it is worked out.
@@ -378,7 +378,7 @@ fn slot_operand(
 ) -> Operand
     ensures { operand_to result max_work max_entries ≡ sees (after (copied (value_at slots.now slot) (meter work max_work entries max_entries)) (restrict constants.now (refinements_of refinements.now count) id)) }
 {
-    match rows::copied_at(slots, slot, work, max_work, entries, max_entries) {
+    match rows::copied_at_counted(slots, slot, work, max_work, entries, max_entries) {
         Copied::Stopped(stop, w, e) => Operand::Stopped(stop, w, e),
         Copied::To(w, e) => {
             let listed = rows::entries_at(slots, slot);
@@ -593,7 +593,7 @@ pub fn expression(
             }
             Expression::Slot(slot) => {
                 let value = rows::abstract_at(slots, slot as usize);
-                let node = value.copied(now, max_work, entries, max_entries);
+                let node = value.copied_counted(now, max_work, entries, max_entries);
                 finish(
                     node,
                     refinements,

@@ -12,7 +12,7 @@ use Rattle.interval.specs.declared.Interval.TheVariants.{Bottom, Bounded}
 use Rattle.interval.specs.Interval.{hull_of, meet_of, endpoints_of, checked_of}
 use Rattle.interval.specs.Bound.{top_of}
 use Rattle.lattice.specs.declared.Widening.TheVariants.{ValueWidth}
-use Rattle.lattice.specs.declared.Reason.TheVariants.{None, Some}
+use Rattle.std.specs.Prelude.{None, Some}
 use Rattle.lattice.specs.Value.{Value, value}
 use Rattle.lattice.specs.Lattice.{join}
 use Rattle.rows.specs.Row.{row}

@@ -29,9 +29,9 @@ use Rattle.lattice.specs.Value.{Value}
 use Rattle.rows.specs.Row.{entries_of, value_at}
 use Rattle.rules.specs.declared.Relation.{Relation}
 use Rattle.rules.specs.declared.Guard.{Guard}
-use Rattle.lists.specs.declared.Verdict.{Verdict}
-use Rattle.lists.specs.declared.Verdict.TheVariants.{Yes, No}
-use Rattle.lists.specs.declared.Verdict.TheVariants as verdict
+use Rattle.lists.specs.declared.bridge.Verdict.{Verdict}
+use Rattle.lists.specs.declared.bridge.Verdict.TheVariants.{Yes, No}
+use Rattle.lists.specs.declared.bridge.Verdict.TheVariants as verdict
 use Rattle.lists.specs.Answers.{told, Answers}
 use Rattle.slots.specs.declared.Counted.{Counted}
 use Rattle.slots.specs.declared.Counted.TheVariants.{Going}

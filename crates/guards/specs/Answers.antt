@@ -8,7 +8,7 @@ use Rattle.limits.specs.Meter.{meter}
 use Rattle.guards.specs.declared.Refined.{Refined}
 use Rattle.guards.specs.declared.Refined.TheVariants.{Done, Stopped}
 use Rattle.interval.specs.declared.Bound.{Bound}
-use Rattle.lattice.specs.declared.Reason.TheVariants.{None}
+use Rattle.std.specs.Prelude.{None}
 use Rattle.lattice.specs.Value.{Value, value}
 use Rattle.guards.specs.Guards.{Local, local, fewer}
 

@@ -221,6 +221,18 @@ pub keeps_refine : (cs : List ℕ) (v : Value) (i : Interval) → Keeps (refine 
 unfolding refine
 keeps_refine cs v i = keeps_meet cs v _
 
+-- the counts that a call leaves, beside the limits that it was given
+module _ {A : Type 0} {c : Metered Stop Meter A} (k : Keeps c) (m : Meter) {t : Meter} where
+  pub kept_going : {a : A} → going a t ≡ c m → going a (meter t.work m.max_work t.entries m.max_entries) ≡ c m
+  kept_going {a} h =
+      let q = subst (λ (x : Run Stop Meter A). KeptIn m x) (sym h) (k.at m) in
+      sym (ap (λ (i : ℕ). going a (meter t.work i t.entries m.max_entries)) q.0) ∙ (sym (ap (λ (i : ℕ). going a (meter t.work t.max_work t.entries i)) q.1) ∙ h)
+
+  pub kept_stopped : {e : Stop} → stopped e t ≡ c m → stopped e (meter t.work m.max_work t.entries m.max_entries) ≡ c m
+  kept_stopped {e} h =
+      let q = subst (λ (x : Run Stop Meter A). KeptIn m x) (sym h) (k.at m) in
+      sym (ap (λ (i : ℕ). stopped e (meter t.work i t.entries m.max_entries)) q.0) ∙ (sym (ap (λ (i : ℕ). stopped e (meter t.work t.max_work t.entries i)) q.1) ∙ h)
+
 -- what is made, beside the limits that a call was given
 module _ {c : Metered Stop Meter Value} (k : Keeps c) (r : Made) (x : Result Abstract Stop) (m t : Meter) (h : answered_value x t ≡ c m) where
   limits_of : (y : Result Abstract Stop) → KeptIn m (answered_value y t) → (t.max_work ≡ m.max_work) × (t.max_entries ≡ m.max_entries)
@@ -341,3 +353,15 @@ made_constant id c width w e me r x m₀ t h q =
     go : (o : Outcome) (mw : ℕ) → under mw (ran_as o (value_of r.value) (meter r.work m₀ r.entries me)) ≡ ran_as o (value_of r.value) (meter r.work mw r.entries me)
     go Done mw = refl
     go (outcome.Stopped s) mw = refl
+
+-- ---- a verdict, by the code's answer
+
+module _ {c : Metered Stop Meter Bool} {w mw : ℕ} {r : Verdict} (h : Answers c w mw r) (e me : ℕ) where
+  pub said_yes : {n : ℕ} → r ≡ Yes n → going true (meter n mw e me) ≡ c (meter w mw e me)
+  said_yes p = sym (ap (λ (x : Verdict). told x mw e me) p) ∙ h.at e me
+
+  pub said_no : {n : ℕ} → r ≡ No n → going false (meter n mw e me) ≡ c (meter w mw e me)
+  said_no p = sym (ap (λ (x : Verdict). told x mw e me) p) ∙ h.at e me
+
+  pub said_stop : {s : Stop} {n : ℕ} → r ≡ verdict.Stopped s n → stopped s (meter n mw e me) ≡ c (meter w mw e me)
+  said_stop p = sym (ap (λ (x : Verdict). told x mw e me) p) ∙ h.at e me

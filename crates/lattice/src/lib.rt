@@ -275,12 +275,7 @@ impl Abstract {
     }
 
     // One constant. It has a list where it is retained and the width admits one.
-    pub fn constant(
-        id: u16,
-        key: Constant,
-        width: u64,
-        meter: &mut Meter,
-    ) -> Result<Abstract, Stop>
+    pub fn constant(id: u16, key: Constant, width: u64, meter: &mut Meter) -> Result<Abstract, Stop>
         ensures { answered_value result meter.new ≡ constant id key width meter.old }
     {
         let bound = Bound::constant(key);

@@ -3,7 +3,7 @@ use Prim.Native.Nat.{ℕ, suc, ◌+◌, ◌-◌, ◌<◌, ◌≤◌, min}
 use native.Mathlib.Omega.{arith}
 use native.Mathlib.Numerals.{add-one}
 use mathlib.Core.Path.{◌≡◌, refl, ◌∙◌}
-use mathlib.Core.Bool.{true, false}
+use mathlib.Core.Bool.{Bool, true, false}
 use mathlib.Core.List.{List, [], ◌∷◌}
 use borrow.Author.Tests.{le-leb, lt-leb, eq-eqb, ne_eqb}
 use lib.Dec.{eqb}
@@ -11,10 +11,11 @@ use lib.ListN.{length, drop, get_or, length-drop}
 use lib.Seq.{drop-cons}
 use Rattle.limits.specs.declared.Stop.{Stop}
 use Rattle.limits.specs.declared.Meter.{Meter}
-use Rattle.limits.specs.Metered.{going, stopped, pure, after, ◌>>=◌, ◌>>◌}
+use Rattle.limits.specs.Metered.{Run, going, stopped, pure, after, ◌>>=◌, ◌>>◌}
 use Rattle.limits.specs.Meter.{work, release, released, holding}
 use Rattle.limits.proofs.Monad.{then_on, then_stop, pure_is, yes_on, no_on}
-use Rattle.search.specs.Seek.{found, absent, seek, compareℕ}
+use Rattle.std.proofs.Common.{is_ok}
+use Rattle.search.specs.Seek.{Place, found, absent, found?, seek, compareℕ}
 use Rattle.lists.specs.Lists.{push, retain_all, take_one, permits_in, same_ids}
 
 -- ---- the entries of a list
@@ -66,13 +67,13 @@ module _ (width held : ℕ) (m : Meter) where
 -- ---- a search's end, as what permits answers
 
 module _ (l : List ℕ) (id turns : ℕ) (m : Meter) {m' : Meter} where
-  pub permits_found : {i : ℕ} → going (found i) m' ≡ seek (λ i. compareℕ (get_or l i 0) id) turns 0 (length l) m → going true m' ≡ permits_in turns l id m
+  pub permits_ended : {p : Place} {t : Bool} → going p m' ≡ seek (λ i. compareℕ (get_or l i 0) id) turns 0 (length l) m → t ≡ is_ok p → going t m' ≡ permits_in turns l id m
   unfolding permits_in ◌>>=◌ after pure
-  permits_found h = rw (← h)
-
-  pub permits_absent : {i : ℕ} → going (absent i) m' ≡ seek (λ i. compareℕ (get_or l i 0) id) turns 0 (length l) m → going false m' ≡ permits_in turns l id m
-  unfolding permits_in ◌>>=◌ after pure
-  permits_absent h = rw (← h)
+  permits_ended {p} h e = rw (e, ← h) (go p)
+    where
+      go : (p : Place) → ◌≡◌ {A = Run Stop Meter Bool} (going (is_ok p) m') (going (found? p) m')
+      go (found i) = refl
+      go (absent i) = refl
 
   pub permits_stopped : {s : Stop} → stopped s m' ≡ seek (λ i. compareℕ (get_or l i 0) id) turns 0 (length l) m → stopped s m' ≡ permits_in turns l id m
   unfolding permits_in ◌>>=◌ after

@@ -1,4 +1,7 @@
 // For the crates above that still hand counts through as numbers.
+#![tactic(auto)]
+
+ghost use Rattle.std.specs.Prelude.{◌≡◌, length, take};
 
 use limits::Stop;
 
@@ -8,4 +11,11 @@ pub enum Verdict {
     Yes(u64),
     No(u64),
     Stopped(Stop, u64),
+}
+
+// The length of a list that is an array and a length.
+pub fn length_of(ids: [u16; 16], len: usize) -> usize
+    ensures { result ≡ length (take len ids) }
+{
+    len.min(ids.len())
 }

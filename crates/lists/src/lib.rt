@@ -9,12 +9,11 @@ ghost use Rattle.lists.specs.Lists.{union, push, retain_all, take_one, collect, 
 ghost use Rattle.lists.specs.Ids.{next_of, past, seen, merged};
 
 use limits::{Meter, Stop};
-use std::cmp::Ordering;
 
 mod bridge;
 mod ids;
 
-pub use bridge::Verdict;
+pub use bridge::{Verdict, length_of};
 pub use ids::Ids;
 
 // One live entry more of a list that has `held`, which are released where it is refused.
@@ -98,18 +97,8 @@ pub fn merge(
 pub fn permits_id(ids: &[u16], id: u16, meter: &mut Meter) -> Result<bool, Stop>
     ensures { answered result meter.new ≡ permits_in (length ids.now) ids.now id meter.old }
 {
-    let mut low: usize = 0;
-    let mut high = ids.len();
-    while low < high {
-        meter.work(1)?;
-        let middle = low + (high - low) / 2;
-        match ids[middle].cmp(&id) {
-            Ordering::Less => low = middle + 1,
-            Ordering::Greater => high = middle,
-            Ordering::Equal => return Ok(true),
-        }
-    }
-    Ok(false)
+    let place = search::seek(ids.len(), |i| ids[i].cmp(&id), meter)?;
+    Ok(place.is_ok())
 }
 
 // Whether two lists are the same as far as the shorter one goes.

@@ -109,7 +109,7 @@ impl Expression {
             Expression::Absolute(value) => node_of(3, 0, value, 0),
             Expression::Binary(op, left, right) => node_of(4, op.number(), left, right),
             Expression::Unknown(integer, reason) => {
-                node_of(5, mark(integer), reason.number() as u64, 0)
+                node_of(5, mark(integer), u64::from(u32::from(reason)), 0)
             }
         }
     }

@@ -16,17 +16,17 @@ use Rattle.limits.specs.Budget.{widened_once}
 use Rattle.limits.proofs.Monad.{bind_stop, bind_on, then_stop, then_on, pure_is}
 use Rattle.limits.proofs.CodeLaws.{work_paid, work_stopped, hold_on, hold_stop}
 use Rattle.interval.specs.declared.Interval.{Interval}
-use Rattle.lists.specs.declared.Verdict.{Verdict}
-use Rattle.lists.specs.declared.Verdict.TheVariants.{Yes, No}
-use Rattle.lists.specs.declared.Verdict.TheVariants as verdict
+use Rattle.lists.specs.declared.bridge.Verdict.{Verdict}
+use Rattle.lists.specs.declared.bridge.Verdict.TheVariants.{Yes, No}
+use Rattle.lists.specs.declared.bridge.Verdict.TheVariants as verdict
 use Rattle.lists.specs.Answers.{Answers}
 use Rattle.lattice.specs.declared.Abstract.{Abstract}
-use Rattle.lattice.specs.declared.Outcome.TheVariants.{Done, Stopped}
-use Rattle.lattice.specs.declared.Made.{Made}
+use Rattle.lattice.specs.declared.bridge.Outcome.TheVariants.{Done, Stopped}
+use Rattle.lattice.specs.declared.bridge.Made.{Made}
 use Rattle.lattice.specs.Value.{Value, value_of}
 use Rattle.lattice.specs.Lattice.{same, join}
 use Rattle.lattice.specs.Answers.{made}
-use Rattle.lattice.proofs.CodeLaws.{said_yes, said_no, said_stop}
+use Rattle.lattice.proofs.Limits.{said_yes, said_no, said_stop}
 use Rattle.rows.specs.Row.{entries_of, value_at, put}
 use Rattle.seeds.specs.Seed.{loses}
 use Rattle.widening.specs.declared.Growth.{Growth}

@@ -90,7 +90,7 @@ fn compare(
 ) -> Grew
     ensures { Compares (compared (value_of old) (value_of value) growth) work max_work entries result }
 {
-    match old.same(value, work, max_work) {
+    match old.same_counted(value, work, max_work) {
         Verdict::Stopped(stop, now) => {
             let live = limits::release(entries, rows::entries_of(value));
             stopped(stop, value, growth, now, live)
@@ -163,7 +163,7 @@ fn grow(
     match limits::charge(Resource::Work, work, 1, max_work) {
         Charged::Stopped(stop, now) => stopped(stop, old, growth, now, entries),
         Charged::Paid(now) => {
-            let made = old.join(candidate, width, now, max_work, entries, max_entries);
+            let made = old.join_counted(candidate, width, now, max_work, entries, max_entries);
             let outcome = made.outcome;
             let value = made.value;
             match outcome {

@@ -30,10 +30,10 @@ use Rattle.interval.specs.declared.Interval.TheVariants.{Bottom, Bounded, Unboun
 use Rattle.interval.specs.Interval.{meet_of}
 use Rattle.interval.specs.Bound.{bottom_of, numeric_of, meet_bound, same_bound}
 use Rattle.cells.specs.Cells.{of_cell}
-use Rattle.lattice.specs.declared.Outcome.{Outcome}
-use Rattle.lattice.specs.declared.Outcome.TheVariants.{Done, Stopped}
-use Rattle.lattice.specs.declared.Made.{Made}
-use Rattle.lattice.specs.declared.Reason.TheVariants.{None}
+use Rattle.lattice.specs.declared.bridge.Outcome.{Outcome}
+use Rattle.lattice.specs.declared.bridge.Outcome.TheVariants.{Done, Stopped}
+use Rattle.lattice.specs.declared.bridge.Made.{Made}
+use Rattle.std.specs.Prelude.{None}
 use Rattle.lattice.specs.Value.{Value, value_of, value}
 use Rattle.lattice.specs.Lattice.{numeric, sift, reduce, source, meet_lists, meet, refine}
 use Rattle.lattice.specs.Answers.{ran_as, made}

@@ -24,8 +24,8 @@ use Rattle.limits.proofs.Monad.{bind_stop, bind_on, then_stop, then_on, through_
 use Rattle.limits.proofs.Onward.{Onward, onward_begins, onward_ends, then_stops, then_goes}
 use Rattle.limits.proofs.ChargeLaws.{accepted_adds}
 use Rattle.limits.proofs.CodeLaws.{paid, broke, work_paid, work_stopped}
-use Rattle.lattice.specs.declared.Outcome.TheVariants.{Done, Stopped}
-use Rattle.lattice.specs.declared.Made.{Made}
+use Rattle.lattice.specs.declared.bridge.Outcome.TheVariants.{Done, Stopped}
+use Rattle.lattice.specs.declared.bridge.Made.{Made}
 use Rattle.lattice.specs.Value.{Value, value_of}
 use Rattle.lattice.specs.Lattice.{join}
 use Rattle.lattice.specs.Answers.{made}

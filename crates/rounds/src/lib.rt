@@ -106,7 +106,7 @@ fn join_owned(
 {
     let old = rows::abstract_at(res, row);
     let held = rows::entries_of(value);
-    let new = old.join(value, width, work, max_work, entries, max_entries);
+    let new = old.join_counted(value, width, work, max_work, entries, max_entries);
     let outcome = new.outcome;
     let joined = new.value;
     match outcome {

@@ -8,6 +8,7 @@ use mathlib.Core.Bool.{Bool, true, false, cond, not}
 use mathlib.Core.List.{List}
 use mathlib.Core.Option.{Option, some, none}
 use borrow.Author.Tests.{eq-eqb, ne_eqb}
+use mir.Val.{bool_byte}
 use lib.Dec.{eqb}
 use lib.IntN.{ℤ}
 use lib.ListN.{length, get_or, take, drop, set, length-take, length-drop, length-map, get_or-eq_default, get_or-map}
@@ -19,32 +20,23 @@ use Rattle.interval.specs.declared.Interval.TheVariants.{Bottom}
 use Rattle.interval.specs.declared.Bound.{Bound}
 use Rattle.interval.specs.Interval.{ascending_of}
 use Rattle.cells.specs.Cells.{of_cell}
-use Rattle.lattice.specs.declared.Reason.{Reason}
-use Rattle.lattice.specs.declared.Reason.TheVariants.{None}
+use Rattle.std.proofs.Common.{Result, Ok, Err}
+use Rattle.limits.specs.declared.Stop.{Stop}
+use Rattle.limits.specs.declared.Meter.{Meter}
+use Rattle.limits.specs.Metered.{going, answered}
+use Rattle.limits.specs.Meter.{work}
+use Rattle.lists.specs.Lists.{retain_all}
+use Rattle.lists.specs.Ids.{seen}
+use Rattle.lattice.specs.Lattice.{copied}
+use Rattle.lattice.proofs.CodeLaws.{list_copied, entries_stopped}
+use Rattle.lattice.specs.Value.{Reason}
+use Rattle.std.specs.Prelude.{None}
 use Rattle.lattice.specs.declared.Abstract.{Abstract}
 use Rattle.lattice.specs.Value.{Value, value_of, reason_number}
-use Rattle.rows.specs.Row.{row, padded, integrality_cell, case_cell, low_cell, high_cell, bound_cells, kept_cell, listed?, list_of, entries_of, encode, integrality_of, interval_of, reasons, reason_of, id_of, ids_of, decode, value_at, put}
+use Rattle.rows.specs.Row.{row, padded, bound_of, integrality_cell, case_cell, low_cell, high_cell, bound_cells, kept_cell, listed?, list_of, entries_of, encode, integrality_of, interval_of, reasons, reason_of, id_of, ids_of, decode, value_at, put}
 use Rattle.rows.proofs.RowLaws.{length_padded, get_or_padded, row_cell}
 
--- ---- one cell
-
-pub no_interval : (n : ℕ) (low high : ℤ) → (n ≡ 2 → ⊥) → (n ≡ 1 → ⊥) → Bottom ≡ interval_of n low high
-no_interval zero low high p q = refl
-no_interval (suc zero) low high p q = absurd (q refl)
-no_interval (suc (suc zero)) low high p q = absurd (p refl)
-no_interval (suc (suc (suc n))) low high p q = refl
-
-pub no_reason : (n : ℕ) → (n ≡ 1 → ⊥) → (n ≡ 2 → ⊥) → (n ≡ 3 → ⊥) → (n ≡ 4 → ⊥) → (n ≡ 5 → ⊥) → (n ≡ 6 → ⊥) → None ≡ reason_of n
-no_reason zero a b c d e f = refl
-no_reason (suc n) a b c d e f = sym (get_or-eq_default (drop 1 reasons) None {n = n} (omega arith))
-
-pub one_interval : {n : ℕ} {a b low high : ℤ} {r : Interval} → n ≡ 1 → low ≡ a → high ≡ b → r ≡ ascending_of low high → r ≡ interval_of n a b
-one_interval one el eh e = e ∙ rw (one, el, eh)
-
 -- ---- the bound
-
-abbrev bound : Integrality → Interval → Bound
-bound g x = record { integrality = g; interval = x }
 
 pub bound_put : (d : List ℕ) (at : ℕ) (b : Bound) {a₀ a₁ a₂ a₃ : ℕ} {l₁ l₂ l₃ r : List ℕ} →
     a₀ ≡ integrality_cell b.integrality → a₁ ≡ case_cell b.interval → a₂ ≡ low_cell b.interval → a₃ ≡ high_cell b.interval →
@@ -53,8 +45,21 @@ bound_put d at b e₀ e₁ e₂ e₃ p₁ p₂ p₃ p = p ∙ rw (p₃, p₂, p�
 
 -- ---- the list
 
-pub list_length : (v : Abstract) {n : ℕ} → v.kept ≡ true → n ≡ length (take v.len v.ids) → n ≡ length (list_of (value_of v).values)
-list_length v k e = rw k e
+pub kept_listed : (o : Option (List ℕ)) → true ≡ listed? o → some (list_of o) ≡ o
+kept_listed none e = let z : ◌≡◌ {A = ℕ} 0 1 = cc in absurd (omega arith)
+kept_listed (some l) e = refl
+
+pub none_listed : (o : Option (List ℕ)) → false ≡ listed? o → none ≡ o
+none_listed none e = refl
+none_listed (some l) e = let z : ◌≡◌ {A = ℕ} 0 1 = cc in absurd (omega arith)
+
+-- the cell that tells whether there is a list
+pub kept_is : (v : Abstract) {k : ℕ} → k ≡ bool_byte v.kept → k ≡ kept_cell (value_of v).values
+kept_is v e = e ∙ go v.kept
+  where
+    go : (t : Bool) → bool_byte t ≡ kept_cell (cond t (some (take v.len v.ids)) none)
+    go true = refl
+    go false = refl
 
 -- ---- the ids
 
@@ -83,10 +88,6 @@ kept_list : (t : Bool) (n : ℕ) (l : List ℕ) → cond (not t) (some (take n l
 kept_list true n l = refl
 kept_list false n l = refl
 
-taken : (t : Bool) (n : ℕ) (l : List ℕ) → take (length (list_of (cond t (some (take n l)) none))) l ≡ list_of (cond t (some (take n l)) none)
-taken true n l = ap (λ (m : ℕ). take m l) (length-take n l) ∙ take_min l n
-taken false n l = refl
-
 module _ (cells : List ℕ) (i at : ℕ) (start : at ≡ min (row * i) (length cells)) where
   the_row : padded row (drop at cells) ≡ padded row (drop (row * i) cells)
   the_row = ap (λ (n : ℕ). padded row (drop n cells)) start ∙ ap (padded row) (drop_min cells (row * i))
@@ -97,29 +98,23 @@ module _ (cells : List ℕ) (i at : ℕ) (start : at ≡ min (row * i) (length c
   first : get_or cells at 0 ≡ get_or (padded row (drop at cells)) 0 0
   first = rw add-zero at (cell 0 (omega arith))
 
-  pub row_read : {a₀ a₁ a₂ a₃ a₄ a₅ a₆ : ℕ} {g : Integrality} {x : Interval} {w : Reason} {ids : List ℕ} →
-      a₀ ≡ get_or cells at 0 → a₁ ≡ get_or cells (at + 1) 0 → a₂ ≡ get_or cells (at + 2) 0 → a₃ ≡ get_or cells (at + 3) 0 →
-      a₄ ≡ get_or cells (at + 4) 0 → a₅ ≡ get_or cells (at + 5) 0 → a₆ ≡ get_or cells (at + 6) 0 →
-      g ≡ integrality_of a₀ → x ≡ interval_of a₁ (of_cell a₂) (of_cell a₃) → w ≡ reason_of a₆ → ids ≡ ids_of (padded row (drop at cells)) →
-      value_of (record { bound = record { integrality = g; interval = x }; ids = ids; len = a₅; kept = not (eqb a₄ 0); reason = w }) ≡ value_at cells i
+  pub row_read : {b : Bound} {a₄ a₅ a₆ : ℕ} {w : Reason} {ids : List ℕ} →
+      b ≡ bound_of cells at → a₄ ≡ get_or cells (at + 4) 0 → a₅ ≡ get_or cells (at + 5) 0 → a₆ ≡ get_or cells (at + 6) 0 → w ≡ reason_of a₆ → ids ≡ ids_of (padded row (drop at cells)) →
+      value_of (record { bound = b; ids = ids; len = a₅; kept = not (eqb a₄ 0); reason = w }) ≡ value_at cells i
   unfolding value_at decode
-  row_read e₀ e₁ e₂ e₃ e₄ e₅ e₆ eg ex ew ei =
-      rw (← the_row, eg, ex, ew, ei, e₀, first, e₁, cell 1 (omega arith), e₂, cell 2 (omega arith), e₃, cell 3 (omega arith))
+  row_read eb e₄ e₅ e₆ ew ei =
+      rw (← the_row, eb, ew, ei, first, cell 1 (omega arith), cell 2 (omega arith), cell 3 (omega arith))
       (rw (e₄, cell 4 (omega arith), e₅, cell 5 (omega arith), e₆, cell 6 (omega arith))
       (rw (kept_list (eqb (get_or (padded row (drop at cells)) 4 0) 0) (get_or (padded row (drop at cells)) 5 0) (ids_of (padded row (drop at cells))))))
 
   -- without a list the ids mean nothing
-  pub row_bare : (ids : List ℕ) {a₀ a₁ a₂ a₃ a₄ a₅ a₆ : ℕ} {g : Integrality} {x : Interval} {w : Reason} →
-      a₀ ≡ get_or cells at 0 → a₁ ≡ get_or cells (at + 1) 0 → a₂ ≡ get_or cells (at + 2) 0 → a₃ ≡ get_or cells (at + 3) 0 →
-      a₄ ≡ get_or cells (at + 4) 0 → a₅ ≡ get_or cells (at + 5) 0 → a₆ ≡ get_or cells (at + 6) 0 →
-      g ≡ integrality_of a₀ → x ≡ interval_of a₁ (of_cell a₂) (of_cell a₃) → w ≡ reason_of a₆ → not (eqb a₄ 0) ≡ false →
-      value_of (record { bound = record { integrality = g; interval = x }; ids = ids; len = a₅; kept = not (eqb a₄ 0); reason = w }) ≡ value_at cells i
-  row_bare ids {a₄} {a₅} {g} {x} {w} e₀ e₁ e₂ e₃ e₄ e₅ e₆ eg ex ew bare =
-      same (not (eqb a₄ 0)) bare ∙ row_read e₀ e₁ e₂ e₃ e₄ e₅ e₆ eg ex ew refl
+  pub row_bare : (ids : List ℕ) {b : Bound} {a₄ a₅ a₆ : ℕ} {w : Reason} →
+      b ≡ bound_of cells at → a₄ ≡ get_or cells (at + 4) 0 → a₅ ≡ get_or cells (at + 5) 0 → a₆ ≡ get_or cells (at + 6) 0 → w ≡ reason_of a₆ → not (eqb a₄ 0) ≡ false →
+      value_of (record { bound = b; ids = ids; len = a₅; kept = not (eqb a₄ 0); reason = w }) ≡ value_at cells i
+  row_bare ids {b} {a₄} {a₅} {w} eb e₄ e₅ e₆ ew bare = same (not (eqb a₄ 0)) bare ∙ row_read eb e₄ e₅ e₆ ew refl
     where
       same : (k : Bool) → k ≡ false →
-          value_of (record { bound = record { integrality = g; interval = x }; ids = ids; len = a₅; kept = k; reason = w })
-          ≡ value_of (record { bound = record { integrality = g; interval = x }; ids = ids_of (padded row (drop at cells)); len = a₅; kept = k; reason = w })
+          value_of (record { bound = b; ids = ids; len = a₅; kept = k; reason = w }) ≡ value_of (record { bound = b; ids = ids_of (padded row (drop at cells)); len = a₅; kept = k; reason = w })
       same k e = rw e refl
 
   -- the stores of the bound, of three cells and of the ids, as one
@@ -129,13 +124,13 @@ module _ (cells : List ℕ) (i at : ℕ) (start : at ≡ min (row * i) (length c
   unfolding encode
   stores v = simp towards_suc
 
-  pub row_put : (v : Abstract) {k len w : ℕ} {l₁ l₂ l₃ l₄ r : List ℕ} →
-      k ≡ kept_cell (value_of v).values → len ≡ length (list_of (value_of v).values) → w ≡ reason_number v.reason →
-      l₁ ≡ sets cells at (bound_cells v.bound) → l₂ ≡ set l₁ (at + 4) k → l₃ ≡ set l₂ (at + 5) len → l₄ ≡ set l₃ (at + 6) w →
-      r ≡ sets l₄ (at + 7) (padded (row - 7) (take len v.ids)) → r ≡ put cells i (value_of v)
+  pub row_put : (v : Abstract) {k w : ℕ} {ids l₁ l₂ l₃ l₄ r : List ℕ} →
+      k ≡ kept_cell (value_of v).values → ids ≡ list_of (value_of v).values → w ≡ reason_number v.reason →
+      l₁ ≡ sets cells at (bound_cells v.bound) → l₂ ≡ set l₁ (at + 4) k → l₃ ≡ set l₂ (at + 5) (length ids) → l₄ ≡ set l₃ (at + 6) w →
+      r ≡ sets l₄ (at + 7) (padded (row - 7) ids) → r ≡ put cells i (value_of v)
   unfolding put
   row_put v ek en ew p₁ p₂ p₃ p₄ p =
-      p ∙ rw (p₄, p₃, p₂, p₁, ek, en, ew, taken v.kept v.len v.ids)
+      p ∙ rw (p₄, p₃, p₂, p₁, ek, en, ew)
       (stores (value_of v) ∙ ap (λ (n : ℕ). sets cells n (encode (value_of v))) start ∙ sets_min (encode (value_of v)) cells (row * i))
 
   -- ---- the live entries of a row
@@ -156,27 +151,13 @@ module _ (cells : List ℕ) (i at : ℕ) (start : at ≡ min (row * i) (length c
 
   -- ---- a row in parts
 
-  pub bound_read_lem : {a₀ a₁ a₂ a₃ : ℕ} {g : Integrality} {x : Interval} →
-      a₀ ≡ get_or cells at 0 → a₁ ≡ get_or cells (at + 1) 0 → a₂ ≡ get_or cells (at + 2) 0 → a₃ ≡ get_or cells (at + 3) 0 →
-      g ≡ integrality_of a₀ → x ≡ interval_of a₁ (of_cell a₂) (of_cell a₃) → bound g x ≡ (value_at cells i).bound
-  bound_read_lem e₀ e₁ e₂ e₃ eg ex = ap (λ (v : Value). v.bound) (row_read e₀ e₁ e₂ e₃ refl refl refl eg ex refl refl)
+  pub bound_read : {b : Bound} → b ≡ bound_of cells at → b ≡ (value_at cells i).bound
+  bound_read e = e ∙ ap (λ (v : Value). v.bound) (row_read refl refl refl refl refl refl)
 
   row_values : {a₄ : ℕ} → a₄ ≡ get_or cells (at + 4) 0 →
       (value_at cells i).values ≡ cond (eqb a₄ 0) none (some (take (get_or cells (at + 5) 0) (ids_of (padded row (drop at cells)))))
   unfolding value_at decode
   row_values e₄ = rw (← the_row, e₄, cell 4 (omega arith), cell 5 (omega arith))
-
-  pub row_unlisted : {a₄ : ℕ} → a₄ ≡ get_or cells (at + 4) 0 → a₄ ≡ 0 → (value_at cells i).values ≡ none
-  row_unlisted {a₄} e₄ z = rw (eq-eqb a₄ 0 z) at (row_values e₄)
-
-  -- its list, and how long it is
-  pub record Listed (n : ℕ) : Type 0 where
-    pub list : List ℕ
-    pub is : (value_at cells i).values ≡ some list
-    pub size : n ≡ length list
-
-  pub row_listed : {a₄ n : ℕ} → a₄ ≡ get_or cells (at + 4) 0 → (a₄ ≡ 0 → ⊥) → n ≡ entries_of (value_at cells i) → Listed n
-  row_listed {a₄} e₄ z e = let p = rw (ne_eqb a₄ 0 z) at (row_values e₄) in record { list = _; is = p; size = e ∙ ap (λ (o : Option (List ℕ)). length (list_of o)) p }
 
   pub listed_read : {a₄ : ℕ} → a₄ ≡ get_or cells (at + 4) 0 → not (eqb a₄ 0) ≡ listed? (value_at cells i).values
   listed_read {a₄} e₄ = go (eqb a₄ 0) ∙ ap listed? (sym (row_values e₄))
@@ -184,3 +165,10 @@ module _ (cells : List ℕ) (i at : ℕ) (start : at ≡ min (row * i) (length c
       go : (t : Bool) → not t ≡ listed? (cond t none (some (take (get_or cells (at + 5) 0) (ids_of (padded row (drop at cells))))))
       go true = refl
       go false = refl
+
+-- ---- a copy, whose last charge is that of the entries
+
+pub copied_entries : (v : Value) (m : Meter) {m₁ m₂ : Meter} (m₃ : Meter) → going tt m₁ ≡ work 1 m → {l : List ℕ} → some l ≡ v.values → going tt m₂ ≡ work (length l) m₁ →
+    (x : Result (Unit {0}) Stop) → answered x m₃ ≡ retain_all 0 (length l) m₂ → seen (λ _. v) x m₃ ≡ copied v m
+copied_entries v m m₃ h p k (Ok a) q = list_copied v m h p k q
+copied_entries v m m₃ h p k (Err s) q = entries_stopped v m h p k q

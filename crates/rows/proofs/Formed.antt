@@ -29,7 +29,7 @@ use Rattle.interval.specs.Bound.{bottom_of, hull_bound, same_bound}
 use Rattle.interval.specs.Bound as bounds
 use Rattle.cells.specs.Cells.{of_cell}
 use Rattle.cells.proofs.CellLaws.{of_number}
-use Rattle.lattice.specs.declared.Reason.{Reason}
+use Rattle.lattice.specs.Value.{Reason}
 use Rattle.lattice.specs.Value.{Value}
 use Rattle.lattice.specs.Constants.{constant_of, constant_at}
 use Rattle.lattice.specs.Lattice.{bottom, top, numeric, retained, constant, copied, keep_one, sift, reduce, source, meet_lists, meet, refine}

@@ -14,7 +14,7 @@ use Rattle.limits.proofs.Monad.{Ensures, weaken, both}
 use Rattle.interval.specs.declared.Interval.{Interval}
 use Rattle.lists.specs.Lists.{mix, union}
 use Rattle.lists.proofs.ListLaws.{room}
-use Rattle.lattice.specs.declared.Reason.{Reason}
+use Rattle.lattice.specs.Value.{Reason}
 use Rattle.lattice.specs.Value.{Value}
 use Rattle.lattice.specs.Constants.{constant_at}
 use Rattle.lattice.specs.Lattice.{bottom, top, numeric, constant, copied, join, meet, refine}

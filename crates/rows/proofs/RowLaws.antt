@@ -27,8 +27,8 @@ use Rattle.cells.specs.Cells.{of_cell}
 use Rattle.cells.proofs.CellLaws.{of_to, of_number}
 use Rattle.lists.proofs.LiveLaws.{list_size}
 use Rattle.lattice.specs.declared.Widening.TheVariants.{HeadForm, HeadTerm, UnboundVariable, SymbolSize, ValueWidth, Dependency}
-use Rattle.lattice.specs.declared.Reason.{Reason}
-use Rattle.lattice.specs.declared.Reason.TheVariants.{None, Some}
+use Rattle.lattice.specs.Value.{Reason}
+use Rattle.std.specs.Prelude.{None, Some}
 use Rattle.lattice.specs.Value.{Value, reason_number}
 use Rattle.lattice.specs.Lattice.{numeric}
 use Rattle.lattice.proofs.LiveLaws.{size}

@@ -5,8 +5,8 @@ use Rattle.limits.specs.Metered.{Run, going, stopped}
 use Rattle.limits.specs.declared.Meter.{Meter}
 use Rattle.limits.specs.Meter.{meter}
 use Rattle.lattice.specs.Value.{Value}
-use Rattle.rows.specs.declared.Copied.{Copied}
-use Rattle.rows.specs.declared.Copied.TheVariants.{To, Stopped}
+use Rattle.rows.specs.declared.bridge.Copied.{Copied}
+use Rattle.rows.specs.declared.bridge.Copied.TheVariants.{To, Stopped}
 
 -- a copy is the value itself
 abbrev pub copied_to : Copied → Value → ℕ → ℕ → Run Stop Meter Value

@@ -1,5 +1,5 @@
 -- A value as a row of `row` cells in a lent table. A cell beyond the table reads as 0 and is not written, and any contents read as a value.
-use Rattle.std.specs.Prelude.{ℕ, zero, suc, ◌-◌, ◌*◌, ◌%◌, ◌^◌, Bool, true, false, cond, List, [], ◌∷◌, ◌++◌, map, eqb, ℤ, length, get_or, take, drop, replicate}
+use Rattle.std.specs.Prelude.{ℕ, zero, suc, ◌+◌, ◌-◌, ◌*◌, ◌%◌, ◌^◌, Bool, true, false, cond, List, [], ◌∷◌, ◌++◌, map, eqb, ℤ, length, get_or, take, drop, replicate}
 use Rattle.std.proofs.Math.Option.{Option, some, none}
 use Rattle.std.proofs.lemmas.List.Edits.{sets}
 use Rattle.interval.specs.declared.Integrality.{Integrality}
@@ -10,8 +10,8 @@ use Rattle.interval.specs.declared.Bound.{Bound}
 use Rattle.interval.specs.Interval.{ascending_of}
 use Rattle.cells.specs.Cells.{to_cell, of_cell}
 use Rattle.lattice.specs.declared.Widening.TheVariants.{HeadForm, HeadTerm, UnboundVariable, SymbolSize, ValueWidth, Dependency}
-use Rattle.lattice.specs.declared.Reason.{Reason}
-use Rattle.lattice.specs.declared.Reason.TheVariants.{None, Some}
+use Rattle.lattice.specs.Value.{Reason}
+use Rattle.std.specs.Prelude.{None, Some}
 use Rattle.lattice.specs.Value.{Value, reason_number}
 
 -- the constant ROW
@@ -105,6 +105,13 @@ value_at cells i = decode (padded row (drop (row * i) cells))
 
 unfoldable pub put : List ℕ → ℕ → Value → List ℕ
 put cells i v = sets cells (row * i) (encode v)
+
+-- the bound of the row that begins at a place
+abbrev pub bound_of : List ℕ → ℕ → Bound
+bound_of cells at = record {
+  integrality = integrality_of (get_or cells at 0);
+  interval = interval_of (get_or cells (at + 1) 0) (of_cell (get_or cells (at + 2) 0)) (of_cell (get_or cells (at + 3) 0));
+}
 
 -- the first n rows
 unfoldable pub values_of : List ℕ → ℕ → List Value

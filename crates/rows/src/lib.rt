@@ -2,26 +2,22 @@
 //! any table and any row number will do; any contents read as a value.
 #![tactic(auto)]
 
-ghost use Rattle.std.specs.Prelude.{◌≡◌, min, ◌+◌, ◌-◌, ◌*◌, ◌≤◌, length, get_or, take, drop};
+ghost use Rattle.std.specs.Prelude.{◌≡◌, min, ◌+◌, ◌-◌, ◌*◌, ◌≤◌, length, get_or, drop};
 ghost use Rattle.std.proofs.lemmas.List.Edits.{sets};
 ghost use Rattle.cells.specs.Cells.{of_cell};
-ghost use Rattle.limits.specs.Meter.{meter};
+ghost use Rattle.lists.specs.Ids.{seen};
 ghost use Rattle.lattice.specs.Value.{value_of};
 ghost use Rattle.lattice.specs.Lattice.{copied};
-ghost use Rattle.rows.specs.Row.{row, padded, integrality_cell, case_cell, low_cell, high_cell, bound_cells, kept_cell, listed?, list_of, entries_of, integrality_of, interval_of, reason_of, ids_of, value_at, put};
-ghost use Rattle.rows.specs.Answers.{copied_to};
+ghost use Rattle.rows.specs.Row.{row, padded, integrality_cell, case_cell, low_cell, high_cell, bound_cells, bound_of, listed?, list_of, entries_of, integrality_of, interval_of, reason_of, ids_of, value_at, put};
 
 use cells::{cell_at, of_cell, put_cell, to_cell};
 use interval::{Bound, Integrality, Interval};
-use lattice::{Abstract, Reason, Widening};
-use limits::{Charged, Resource, Stop};
+use lattice::{Abstract, Widening};
+use limits::{Meter, Stop};
 
-// The counts after a copy is made: work and live entries.
-#[derive(Clone, Copy)]
-pub enum Copied {
-    To(u64, u64),
-    Stopped(Stop, u64, u64),
-}
+mod bridge;
+
+pub use bridge::{Copied, copied_at_counted};
 
 // The cells of a row: integrality, the interval's case and two ends, whether there is a list, its length, the reason,
 // 16 ids, and one unused.
@@ -31,55 +27,40 @@ pub const ROW: usize = 24;
 fn start(len: usize, number: usize) -> usize
     ensures { result ≡ min (row * number) len }
 {
-    if len / ROW < number {
-        return len;
-    }
-    ROW * number
+    ROW.saturating_mul(number).min(len)
 }
 
 pub fn integrality_of(cell: u32) -> Integrality
     ensures { result ≡ integrality_of cell }
 {
-    if cell == 0 {
-        return Integrality::Integer;
+    match cell {
+        0 => Integrality::Integer,
+        _ => Integrality::Mixed,
     }
-    Integrality::Mixed
 }
 
 pub fn interval_of(number: u32, low: u32, high: u32) -> Interval
     ensures { result ≡ interval_of number (of_cell low) (of_cell high) }
 {
-    if number == 2 {
-        return Interval::Unbounded;
+    match number {
+        1 => interval::ascending(of_cell(low), of_cell(high)),
+        2 => Interval::Unbounded,
+        _ => Interval::Bottom,
     }
-    if number != 1 {
-        return Interval::Bottom;
-    }
-    interval::ascending(of_cell(low), of_cell(high))
 }
 
-fn reason_of(cell: u32) -> Reason
+fn reason_of(cell: u32) -> Option<Widening>
     ensures { result ≡ reason_of cell }
 {
-    if cell == 1 {
-        return Reason::Some(Widening::HeadForm);
+    match cell {
+        1 => Some(Widening::HeadForm),
+        2 => Some(Widening::HeadTerm),
+        3 => Some(Widening::UnboundVariable),
+        4 => Some(Widening::SymbolSize),
+        5 => Some(Widening::ValueWidth),
+        6 => Some(Widening::Dependency),
+        _ => None,
     }
-    if cell == 2 {
-        return Reason::Some(Widening::HeadTerm);
-    }
-    if cell == 3 {
-        return Reason::Some(Widening::UnboundVariable);
-    }
-    if cell == 4 {
-        return Reason::Some(Widening::SymbolSize);
-    }
-    if cell == 5 {
-        return Reason::Some(Widening::ValueWidth);
-    }
-    if cell == 6 {
-        return Reason::Some(Widening::Dependency);
-    }
-    Reason::None
 }
 
 // The ids of the row that begins at `at`.
@@ -87,33 +68,36 @@ fn ids_at(cells: &[u32], at: usize) -> [u16; 16]
     requires { at ≤ length cells.now }
     ensures { result ≡ ids_of (padded row (drop at cells.now)) }
 {
-    let mut ids = [0u16; 16];
-    let mut j = 0;
-    while j < 16 {
-        let id = cell_at(cells, at + 7 + j) % 65536;
-        ids[j] = id as u16;
-        j += 1;
+    let mut ids = [0; 16];
+    for j in 0..16 {
+        ids[j] = (cell_at(cells, at + 7 + j) % 65536) as u16;
     }
     ids
+}
+
+// The bound of the row that begins at `at`.
+fn read_bound(cells: &[u32], at: usize) -> Bound
+    requires { at ≤ length cells.now }
+    ensures { result ≡ bound_of cells.now at }
+{
+    Bound {
+        integrality: integrality_of(cell_at(cells, at)),
+        interval: interval_of(
+            cell_at(cells, at + 1),
+            cell_at(cells, at + 2),
+            cell_at(cells, at + 3),
+        ),
+    }
 }
 
 pub fn abstract_at(cells: &[u32], row: usize) -> Abstract
     ensures { value_of result ≡ value_at cells.now row }
 {
     let at = start(cells.len(), row);
-    let integrality = integrality_of(cell_at(cells, at));
-    let interval = interval_of(
-        cell_at(cells, at + 1),
-        cell_at(cells, at + 2),
-        cell_at(cells, at + 3),
-    );
+    let bound = read_bound(cells, at);
     let kept = cell_at(cells, at + 4) != 0;
     let len = cell_at(cells, at + 5) as usize;
     let reason = reason_of(cell_at(cells, at + 6));
-    let bound = Bound {
-        integrality,
-        interval,
-    };
     // Without a list there are no ids to read.
     if !kept {
         return Abstract {
@@ -148,7 +132,7 @@ pub fn case_cell(interval: Interval) -> u32
 {
     match interval {
         Interval::Bottom => 0,
-        Interval::Bounded { low: _, high: _ } => 1,
+        Interval::Bounded { .. } => 1,
         Interval::Unbounded => 2,
     }
 }
@@ -157,9 +141,8 @@ pub fn low_cell(interval: Interval) -> u32
     ensures { result ≡ low_cell interval }
 {
     match interval {
-        Interval::Bottom => 0,
-        Interval::Bounded { low, high: _ } => to_cell(low),
-        Interval::Unbounded => 0,
+        Interval::Bounded { low, .. } => to_cell(low),
+        _ => 0,
     }
 }
 
@@ -167,9 +150,8 @@ pub fn high_cell(interval: Interval) -> u32
     ensures { result ≡ high_cell interval }
 {
     match interval {
-        Interval::Bottom => 0,
-        Interval::Bounded { low: _, high } => to_cell(high),
-        Interval::Unbounded => 0,
+        Interval::Bounded { high, .. } => to_cell(high),
+        _ => 0,
     }
 }
 
@@ -178,39 +160,28 @@ fn put_bound(cells: &mut [u32], at: usize, bound: Bound)
     requires { at ≤ length cells.old }
     ensures { cells.new ≡ sets cells.old at (bound_cells bound) }
 {
-    let integrality = bound.integrality;
-    let interval = bound.interval;
-    put_cell(cells, at, integrality_cell(integrality));
-    put_cell(cells, at + 1, case_cell(interval));
-    put_cell(cells, at + 2, low_cell(interval));
-    put_cell(cells, at + 3, high_cell(interval));
+    put_cell(cells, at, integrality_cell(bound.integrality));
+    put_cell(cells, at + 1, case_cell(bound.interval));
+    put_cell(cells, at + 2, low_cell(bound.interval));
+    put_cell(cells, at + 3, high_cell(bound.interval));
 }
 
-fn kept_cell(value: Abstract) -> u32
-    ensures { result ≡ kept_cell (value_of value).values }
+// The ids of the list, if there is one.
+fn listed_ids(value: &Abstract) -> &[u16]
+    ensures list { result.now ≡ list_of (value_of value.now).values }
+    ensures short { length result.now ≤ 16 }
 {
-    if value.kept {
-        return 1;
+    match value.list() {
+        Some(ids) => ids,
+        None => &[],
     }
-    0
-}
-
-// The length of the list: none has length 0.
-fn list_len(value: Abstract) -> u32
-    ensures { result ≡ length (list_of (value_of value).values) }
-{
-    if value.kept {
-        let ids = value.ids;
-        return lists::length_of(ids, value.len) as u32;
-    }
-    0
 }
 
 // The live entries of a value: those of its list.
 pub fn entries_of(value: Abstract) -> u64
     ensures { result ≡ entries_of (value_of value) }
 {
-    list_len(value) as u64
+    listed_ids(&value).len() as u64
 }
 
 // The live entries of the value in a row.
@@ -221,28 +192,14 @@ pub fn entries_at(cells: &[u32], row: usize) -> u64
     if cell_at(cells, at + 4) == 0 {
         return 0;
     }
-    let len = cell_at(cells, at + 5);
-    if 16 < len {
-        return 16;
-    }
-    len as u64
+    u64::from(cell_at(cells, at + 5).min(16))
 }
 
 // The bound of the value in a row.
 pub fn bound_at(cells: &[u32], row: usize) -> Bound
     ensures { result ≡ (value_at cells.now row).bound }
 {
-    let at = start(cells.len(), row);
-    let integrality = integrality_of(cell_at(cells, at));
-    let interval = interval_of(
-        cell_at(cells, at + 1),
-        cell_at(cells, at + 2),
-        cell_at(cells, at + 3),
-    );
-    Bound {
-        integrality,
-        interval,
-    }
+    read_bound(cells, start(cells.len(), row))
 }
 
 // Whether the value in a row has a list.
@@ -254,57 +211,35 @@ pub fn is_listed(cells: &[u32], row: usize) -> bool
 }
 
 // What a copy of the value in a row costs. The value itself is not read: its ids are many.
-pub fn copied_at(
-    cells: &[u32],
-    row: usize,
-    work: u64,
-    max_work: u64,
-    entries: u64,
-    max_entries: u64,
-) -> Copied
-    ensures { copied_to result (value_at cells.now row) max_work max_entries ≡ copied (value_at cells.now row) (meter work max_work entries max_entries) }
+pub fn copied_at(cells: &[u32], row: usize, meter: &mut Meter) -> Result<(), Stop>
+    ensures { seen (λ _. value_at cells.now row) result meter.new ≡ copied (value_at cells.now row) meter.old }
 {
-    let at = start(cells.len(), row);
-    match limits::charge(Resource::Work, work, 1, max_work) {
-        Charged::Stopped(stop, now) => Copied::Stopped(stop, now, entries),
-        Charged::Paid(now) => {
-            if cell_at(cells, at + 4) == 0 {
-                return Copied::To(now, entries);
-            }
-            let n = entries_at(cells, row);
-            match limits::charge(Resource::Work, now, n, max_work) {
-                Charged::Stopped(stop, spent) => Copied::Stopped(stop, spent, entries),
-                Charged::Paid(spent) => match lists::retain_all(n, entries, max_entries) {
-                    Charged::Stopped(stop, live) => Copied::Stopped(stop, spent, live),
-                    Charged::Paid(live) => Copied::To(spent, live),
-                },
-            }
-        }
+    meter.work(1)?;
+    if !is_listed(cells, row) {
+        return Ok(());
     }
+    let count = entries_at(cells, row);
+    meter.work(count)?;
+    lists::retain_all(count, meter)
 }
 
 // An id of the list, or 0 behind it.
-fn id_at(ids: [u16; 16], len: usize, j: usize) -> u32
-    ensures { result ≡ get_or (take len ids) j 0 }
+fn id_at(ids: &[u16], j: usize) -> u32
+    ensures { result ≡ get_or ids.now j 0 }
 {
-    if 16 <= j {
-        return 0;
+    match ids.get(j) {
+        Some(id) => u32::from(*id),
+        None => 0,
     }
-    if len <= j {
-        return 0;
-    }
-    ids[j] as u32
 }
 
 // The list's ids, and 0 behind them, into the row that begins at `at`.
-fn put_ids(cells: &mut [u32], at: usize, ids: [u16; 16], len: usize)
+fn put_ids(cells: &mut [u32], at: usize, ids: &[u16])
     requires { at ≤ length cells.old }
-    ensures { cells.new ≡ sets cells.old (at + 7) (padded (row - 7) (take len ids)) }
+    ensures { cells.new ≡ sets cells.old (at + 7) (padded (row - 7) ids.now) }
 {
-    let mut j = 0;
-    while j < ROW - 7 {
-        put_cell(cells, at + 7 + j, id_at(ids, len, j));
-        j += 1;
+    for j in 0..ROW - 7 {
+        put_cell(cells, at + 7 + j, id_at(ids, j));
     }
 }
 
@@ -312,13 +247,10 @@ pub fn put_abstract(cells: &mut [u32], row: usize, value: Abstract)
     ensures { cells.new ≡ put cells.old row (value_of value) }
 {
     let at = start(cells.len(), row);
-    let bound = value.bound;
-    let reason = value.reason;
-    let ids = value.ids;
-    let len = list_len(value);
-    put_bound(cells, at, bound);
-    put_cell(cells, at + 4, kept_cell(value));
-    put_cell(cells, at + 5, len);
-    put_cell(cells, at + 6, reason.number());
-    put_ids(cells, at, ids, len as usize);
+    let ids = listed_ids(&value);
+    put_bound(cells, at, value.bound);
+    put_cell(cells, at + 4, u32::from(value.kept));
+    put_cell(cells, at + 5, ids.len() as u32);
+    put_cell(cells, at + 6, lattice::reason_number(value.reason));
+    put_ids(cells, at, ids);
 }

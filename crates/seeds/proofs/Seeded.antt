@@ -27,8 +27,8 @@ use Rattle.lists.specs.Lists.{union}
 use Rattle.lists.proofs.ListLaws.{Sorted, room}
 use Rattle.lists.proofs.Unions.{union_increasing}
 use Rattle.lattice.specs.declared.Widening.TheVariants.{SymbolSize, ValueWidth}
-use Rattle.lattice.specs.declared.Reason.{Reason}
-use Rattle.lattice.specs.declared.Reason.TheVariants.{None, Some}
+use Rattle.lattice.specs.Value.{Reason}
+use Rattle.std.specs.Prelude.{None, Some}
 use Rattle.lattice.specs.Value.{Value, value}
 use Rattle.lattice.specs.Constants.{constant_of, constant_at, Retained}
 use Rattle.lattice.specs.Lattice.{bottom, numeric, retained, constant}

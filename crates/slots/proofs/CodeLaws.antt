@@ -20,9 +20,9 @@ use Rattle.limits.proofs.Onward.{Onward, onward_begins, onward_ends, bind_stops,
 use Rattle.limits.proofs.Monad.{then_stop, then_on, through_on, through_stop, pure_is}
 use Rattle.limits.proofs.CodeLaws.{work_paid, work_stopped}
 use Rattle.lattice.specs.declared.Widening.TheVariants.{Dependency}
-use Rattle.lattice.specs.declared.Reason.TheVariants.{None, Some}
-use Rattle.lattice.specs.declared.Outcome.TheVariants.{Done, Stopped}
-use Rattle.lattice.specs.declared.Made.{Made}
+use Rattle.std.specs.Prelude.{None, Some}
+use Rattle.lattice.specs.declared.bridge.Outcome.TheVariants.{Done, Stopped}
+use Rattle.lattice.specs.declared.bridge.Made.{Made}
 use Rattle.lattice.specs.declared.Abstract.{Abstract}
 use Rattle.lattice.specs.Value.{Value, value, value_of}
 use Rattle.lattice.specs.Lattice.{top, copied}

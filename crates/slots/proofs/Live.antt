@@ -18,7 +18,7 @@ use Rattle.limits.proofs.Monad.{Holds, Ensures, any_value}
 use Rattle.limits.proofs.Ends.{Ends, completes, stops, ends_pure, ends_then, ends_bind, ends_through, ends_as}
 use Rattle.limits.proofs.Live.{LiveIn, Lives, live_work, live_as, live_ends}
 use Rattle.interval.specs.declared.Interval.{Interval}
-use Rattle.lattice.specs.declared.Reason.TheVariants.{None, Some}
+use Rattle.std.specs.Prelude.{None, Some}
 use Rattle.lattice.specs.declared.Widening.TheVariants.{Dependency}
 use Rattle.lattice.specs.Value.{Value, value}
 use Rattle.lattice.specs.Lattice.{top, copied, meet, refine}

@@ -10,7 +10,7 @@ use Rattle.limits.specs.Meter.{work}
 use Rattle.limits.proofs.Monad.{Agree, Steady, steady_unit}
 use Rattle.limits.proofs.Alike.{Alike, SteadyOn, on_pure, on_bind, on_then, on_through, steady_on}
 use Rattle.interval.specs.declared.Interval.{Interval}
-use Rattle.lattice.specs.declared.Reason.TheVariants.{None}
+use Rattle.std.specs.Prelude.{None}
 use Rattle.lattice.specs.Value.{Value}
 use Rattle.lattice.specs.Lattice.{top}
 use Rattle.lattice.proofs.Steadiness.{copied_steady, meet_steady, refine_steady}

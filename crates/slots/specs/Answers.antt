@@ -6,7 +6,7 @@ use Rattle.limits.specs.declared.Charged.TheVariants.{Paid}
 use Rattle.limits.specs.declared.Charged.TheVariants as charged
 use Rattle.limits.specs.Metered.{Run, going, stopped, Metered}
 use Rattle.limits.specs.Meter.{meter}
-use Rattle.lattice.specs.declared.Made.{Made}
+use Rattle.lattice.specs.declared.bridge.Made.{Made}
 use Rattle.lattice.specs.Value.{Value}
 use Rattle.lattice.specs.Answers.{made}
 use Rattle.slots.specs.declared.Counted.{Counted}

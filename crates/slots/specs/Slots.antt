@@ -7,7 +7,7 @@ use Rattle.limits.specs.declared.Meter.{Meter}
 use Rattle.limits.specs.Meter.{work, released}
 use Rattle.interval.specs.declared.Interval.{Interval}
 use Rattle.lattice.specs.declared.Widening.TheVariants.{Dependency}
-use Rattle.lattice.specs.declared.Reason.TheVariants.{None, Some}
+use Rattle.std.specs.Prelude.{None, Some}
 use Rattle.lattice.specs.Value.{Value, value}
 use Rattle.lattice.specs.Lattice.{top, copied, meet, refine}
 use Rattle.rows.specs.Row.{entries_of, value_at, put}

@@ -11,7 +11,7 @@ ghost use Rattle.slots.specs.Slots.{slots, total, meet_into, meet_owned, refine_
 ghost use Rattle.slots.specs.Answers.{counted, Pays, Settles};
 
 use interval::Interval;
-use lattice::{Abstract, Made, Outcome, Reason, Widening};
+use lattice::{Abstract, Made, Outcome, Widening};
 use limits::{Charged, Resource, Stop};
 use rules::Binding;
 
@@ -67,7 +67,7 @@ pub fn meet_into(
     ensures { counted result cells.new max_work max_entries ≡ meet_into constants.now slot (value_of value) (slots (meter work max_work entries max_entries) cells.old) }
 {
     let old = rows::abstract_at(cells, slot);
-    let new = old.meet(value, constants, work, max_work, entries, max_entries);
+    let new = old.meet_counted(value, constants, work, max_work, entries, max_entries);
     settle(cells, slot, old, new)
 }
 
@@ -114,7 +114,7 @@ pub fn refine_into(
     ensures { counted result cells.new max_work max_entries ≡ refine_into constants.now slot interval (slots (meter work max_work entries max_entries) cells.old) }
 {
     let old = rows::abstract_at(cells, slot);
-    let new = old.refine(interval, constants, work, max_work, entries, max_entries);
+    let new = old.refine_counted(interval, constants, work, max_work, entries, max_entries);
     settle(cells, slot, old, new)
 }
 
@@ -133,7 +133,7 @@ pub fn fill_tops(cells: &mut [u32], count: usize, work: u64, max_work: u64) -> C
                 spent = now;
             }
         }
-        rows::put_abstract(cells, k, Abstract::top(Reason::None));
+        rows::put_abstract(cells, k, Abstract::top(None));
         k += 1;
     }
     Charged::Paid(spent)
@@ -234,7 +234,7 @@ fn depend(cells: &mut [u32], slot: usize)
     }
     let bound = old.bound;
     let ids = old.ids;
-    let reason = Reason::Some(Widening::Dependency);
+    let reason = Some(Widening::Dependency);
     let value = Abstract {
         bound,
         ids,
@@ -314,7 +314,7 @@ pub fn copy_rows(
     let mut k: usize = 0;
     while k < count {
         let value = rows::abstract_at(domains, k);
-        let copy = value.copied(spent, max_work, live, max_entries);
+        let copy = value.copied_counted(spent, max_work, live, max_entries);
         let outcome = copy.outcome;
         match outcome {
             Outcome::Stopped(stop) => {

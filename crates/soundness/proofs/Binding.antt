@@ -21,8 +21,8 @@ use Rattle.interval.specs.Cousot.{◌∋◌}
 use Rattle.interval.specs.Interval.{cousot}
 use Rattle.interval.proofs.Members.{checked_has}
 use Rattle.lattice.specs.declared.Widening.TheVariants.{Dependency, HeadTerm}
-use Rattle.lattice.specs.declared.Reason.{Reason}
-use Rattle.lattice.specs.declared.Reason.TheVariants.{None, Some}
+use Rattle.lattice.specs.Value.{Reason}
+use Rattle.std.specs.Prelude.{None, Some}
 use Rattle.lattice.specs.Value.{Value, value}
 use Rattle.lattice.specs.Lattice.{top, numeric, meet}
 use Rattle.lattice.proofs.Tidiness.{Tidy, numeric_tidy, meet_tidy}

@@ -30,7 +30,7 @@ use Rattle.interval.specs.Interval.{cousot}
 use Rattle.interval.specs.Bound.{mixed}
 use Rattle.lattice.specs.declared.Widening.{Widening}
 use Rattle.lattice.specs.declared.Widening.TheVariants.{HeadForm}
-use Rattle.lattice.specs.declared.Reason.TheVariants.{Some}
+use Rattle.std.specs.Prelude.{Some}
 use Rattle.lattice.specs.Value.{Value}
 use Rattle.lattice.specs.Constants.{constant_at}
 use Rattle.lattice.specs.Lattice.{numeric, constant, copied, refine}

@@ -29,7 +29,7 @@ use Rattle.std.specs.declared.cmp.Ordering.{Ordering}
 use Rattle.std.specs.declared.cmp.Ordering.TheVariants.{Less, Equal, Greater}
 use Rattle.search.specs.Seek.{Place, by, middle, seek}
 use Rattle.lists.specs.Lists.{union, push, retain_all, take_one, collect, permits_in, permits, same_ids}
-use Rattle.lattice.specs.declared.Reason.{Reason}
+use Rattle.lattice.specs.Value.{Reason}
 use Rattle.lattice.specs.Value.{Value}
 use Rattle.lattice.specs.Constants.{constant_at}
 use Rattle.lattice.specs.Lattice.{numeric, retained, constant, copied_list, copied, same_lists, same, join_lists, join, permitted, keep_one, sift, reduce, source, meet_lists, meet, refine}

@@ -14,7 +14,7 @@ use Rattle.interval.specs.declared.Constant.TheVariants.{Number as number, Name,
 use Rattle.interval.specs.Cousot.{◌∋◌}
 use Rattle.interval.specs.Interval.{cousot}
 use Rattle.lists.proofs.ListLaws.{Sorted}
-use Rattle.lattice.specs.declared.Reason.{Reason}
+use Rattle.lattice.specs.Value.{Reason}
 use Rattle.lattice.specs.Value.{Value}
 use Rattle.lattice.specs.Constants.{constant_at}
 use Rattle.lattice.specs.Lattice.{top, numeric, constant, copied, join, meet, refine}

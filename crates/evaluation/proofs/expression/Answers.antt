@@ -18,7 +18,7 @@ returns-in-Constant c =
 pub returns-in-Slot : goal.returns-in-Slot
 returns-in-Slot c =
     let a = c.args in
-    slot_node (input a.nodes.now a.constants.now a.width) a.slots.now (refinements_of a.refinements.now a.count) a.id a.work a.max_work a.entries a.max_entries c.charge.ensures c.in-Paid.is c.expression_at.ensures c.copied-node.result c.finish-in-Slot.ensures c.in-Slot.is c.abstract_at-value.ensures c.copied-node.ensures
+    slot_node (input a.nodes.now a.constants.now a.width) a.slots.now (refinements_of a.refinements.now a.count) a.id a.work a.max_work a.entries a.max_entries c.charge.ensures c.in-Paid.is c.expression_at.ensures c.copied_counted-node.result c.finish-in-Slot.ensures c.in-Slot.is c.abstract_at-value.ensures c.copied_counted-node.ensures
 
 pub returns-in-Unknown : goal.returns-in-Unknown
 returns-in-Unknown c =

@@ -11,9 +11,9 @@ returns-in-Stopped c =
 pub returns-in-Stopped-outcome : goal.returns-in-Stopped-outcome
 returns-in-Stopped-outcome c =
     let a = c.args in
-    grow_unjoined a.width a.thresholds.now (value_of a.old) (value_of a.candidate) a.growth a.work a.max_work a.entries a.max_entries c.charge.ensures c.in-Paid.is c.join-made.result c.join-made.ensures c.in-Stopped-outcome.is c.stopped-in-Stopped-outcome.ensures
+    grow_unjoined a.width a.thresholds.now (value_of a.old) (value_of a.candidate) a.growth a.work a.max_work a.entries a.max_entries c.charge.ensures c.in-Paid.is c.join_counted-made.result c.join_counted-made.ensures c.in-Stopped-outcome.is c.stopped-in-Stopped-outcome.ensures
 
 pub returns-in-Done : goal.returns-in-Done
 returns-in-Done c =
     let a = c.args in
-    grow_on a.width a.thresholds.now (value_of a.old) (value_of a.candidate) a.growth a.work a.max_work a.entries a.max_entries c.charge.ensures c.in-Paid.is c.join-made.result c.join-made.ensures c.in-Done.is c.widen_value.ensures
+    grow_on a.width a.thresholds.now (value_of a.old) (value_of a.candidate) a.growth a.work a.max_work a.entries a.max_entries c.charge.ensures c.in-Paid.is c.join_counted-made.result c.join_counted-made.ensures c.in-Done.is c.widen_value.ensures

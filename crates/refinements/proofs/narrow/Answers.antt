@@ -6,7 +6,7 @@ use Rattle.refinements.proofs.narrow.Goals as goal
 pub returns-then-is_integer : goal.returns-then-is_integer
 returns-then-is_integer c =
     let a = c.args in
-    narrow_yes a.constants.now a.restriction (value_of a.value) a.work a.max_work a.entries a.max_entries c.is_integer.ensures c.refine-new.result c.if-is_integer.true c.refine-new.ensures c.entries_of.ensures c.release-left.ensures
+    narrow_yes a.constants.now a.restriction (value_of a.value) a.work a.max_work a.entries a.max_entries c.is_integer.ensures c.refine_counted-new.result c.if-is_integer.true c.refine_counted-new.ensures c.entries_of.ensures c.release-left.ensures
 
 pub returns : goal.returns
 returns c =

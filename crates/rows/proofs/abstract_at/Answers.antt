@@ -6,7 +6,7 @@ use Rattle.rows.proofs.CodeLaws.{row_read, row_bare}
 use Rattle.rows.proofs.abstract_at.Goals as goal
 
 pub returns-then-not-kept : goal.returns-then-not-kept
-returns-then-not-kept c = row_bare c.args.cells.now c.args.row c.start-at.result c.start-at.ensures _ c.cell_at.ensures c.cell_at-2.ensures c.cell_at-3.ensures c.cell_at-4.ensures c.cell_at-kept.ensures c.cell_at-len.ensures c.cell_at-5.ensures c.integrality_of-integrality.ensures c.interval_of-interval.ensures c.reason_of-reason.ensures (ap not (eq-eqb _ 0 c.if-not-kept.true))
+returns-then-not-kept c = row_bare c.args.cells.now c.args.row c.start-at.result c.start-at.ensures _ c.read_bound-bound.ensures c.cell_at-kept.ensures c.cell_at-len.ensures c.cell_at.ensures c.reason_of-reason.ensures (ap not (eq-eqb _ 0 c.if-not-kept.true))
 
 pub returns : goal.returns
-returns c = row_read c.args.cells.now c.args.row c.start-at.result c.start-at.ensures c.cell_at.ensures c.cell_at-2.ensures c.cell_at-3.ensures c.cell_at-4.ensures c.cell_at-kept.ensures c.cell_at-len.ensures c.cell_at-5.ensures c.integrality_of-integrality.ensures c.interval_of-interval.ensures c.reason_of-reason.ensures c.ids_at-ids.ensures
+returns c = row_read c.args.cells.now c.args.row c.start-at.result c.start-at.ensures c.read_bound-bound.ensures c.cell_at-kept.ensures c.cell_at-len.ensures c.cell_at.ensures c.reason_of-reason.ensures c.ids_at-ids.ensures

@@ -1,38 +1,20 @@
 -- `rows::copied_at` meets its contract.
-use Rattle.rows.proofs.CodeLaws.{row_unlisted, row_listed}
-use Rattle.lattice.proofs.CodeLaws.{copied_stopped, copied_on, copied_listed, copied_unlisted, list_stopped, entries_stopped, list_copied, all_paid, all_stopped}
+use Rattle.lists.proofs.Seen.{seen_exits}
+use Rattle.lattice.proofs.CodeLaws.{copied_stopped, copied_none, list_stopped, entries_stopped, list_copied}
 use Rattle.rows.specs.Row.{value_at}
-use Rattle.limits.proofs.CodeLaws.{work_paid, work_stopped}
+use Rattle.rows.proofs.CodeLaws.{kept_listed, none_listed, copied_entries}
 use Rattle.rows.proofs.copied_at.Goals as goal
 
-pub returns-then-cell_at-eq0 : goal.returns-then-cell_at-eq0
-returns-then-cell_at-eq0 c =
-    let v = value_at c.args.cells.now c.args.row in
-    copied_on v _ (work_paid _ _ _ _ 1 c.charge.ensures c.in-Paid.is) (copied_unlisted v _ (row_unlisted c.args.cells.now c.args.row c.start-at.result c.start-at.ensures c.cell_at.ensures c.if-cell_at-eq0.true))
+pub returns-in_err-work : goal.returns-in_err-work
+returns-in_err-work c = seen_exits (λ _. value_at c.args.cells.now c.args.row) c.from_residual.result c.from_residual.ensures.1 (copied_stopped _ _ c.in_err-work.ensures)
 
-pub returns-in-Stopped : goal.returns-in-Stopped
-returns-in-Stopped c =
-    copied_stopped (value_at c.args.cells.now c.args.row) _ (work_stopped _ _ _ _ 1 c.charge.ensures c.in-Stopped.is)
+pub returns-then-not-is_listed : goal.returns-then-not-is_listed
+returns-then-not-is_listed c = copied_none _ _ c.in_ok-work.ensures (none_listed _ c.if-not-is_listed.ensures)
 
-pub returns-in-Stopped-charge : goal.returns-in-Stopped-charge
-returns-in-Stopped-charge c =
-    let v = value_at c.args.cells.now c.args.row in
-    let l = row_listed c.args.cells.now c.args.row c.start-at.result c.start-at.ensures c.cell_at.ensures c.if-cell_at-eq0.false c.entries_at-n.ensures in
-    copied_on v _ (work_paid _ _ _ _ 1 c.charge.ensures c.in-Paid.is)
-    (copied_listed v _ l.is (list_stopped v l.list l.size _ (work_stopped _ _ _ _ _ c.charge-in-Paid.ensures c.in-Stopped-charge.is)))
+pub returns-in_err-work-2 : goal.returns-in_err-work-2
+returns-in_err-work-2 c =
+    seen_exits (λ _. value_at c.args.cells.now c.args.row) c.from_residual-in_err-work-2.result c.from_residual-in_err-work-2.ensures.1
+    (list_stopped _ _ c.in_ok-work.ensures (kept_listed _ c.if-not-is_listed.ensures) (rw c.entries_at-count.ensures at c.in_err-work-2.ensures))
 
-pub returns-in-Stopped-retain_all : goal.returns-in-Stopped-retain_all
-returns-in-Stopped-retain_all c =
-    let v = value_at c.args.cells.now c.args.row in
-    let l = row_listed c.args.cells.now c.args.row c.start-at.result c.start-at.ensures c.cell_at.ensures c.if-cell_at-eq0.false c.entries_at-n.ensures in
-    copied_on v _ (work_paid _ _ _ _ 1 c.charge.ensures c.in-Paid.is)
-    (copied_listed v _ l.is
-    (entries_stopped v l.list l.size _ (work_paid _ _ _ _ _ c.charge-in-Paid.ensures c.in-Paid-charge.is) (all_stopped c.retain_all.ensures _ _ c.in-Stopped-retain_all.is)))
-
-pub returns-in-Paid-retain_all : goal.returns-in-Paid-retain_all
-returns-in-Paid-retain_all c =
-    let v = value_at c.args.cells.now c.args.row in
-    let l = row_listed c.args.cells.now c.args.row c.start-at.result c.start-at.ensures c.cell_at.ensures c.if-cell_at-eq0.false c.entries_at-n.ensures in
-    copied_on v _ (work_paid _ _ _ _ 1 c.charge.ensures c.in-Paid.is)
-    (copied_listed v _ l.is
-    (list_copied v l.list l.size _ (work_paid _ _ _ _ _ c.charge-in-Paid.ensures c.in-Paid-charge.is) (all_paid c.retain_all.ensures _ _ c.in-Paid-retain_all.is)))
+pub returns : goal.returns
+returns c = copied_entries (value_at c.args.cells.now c.args.row) _ _ c.in_ok-work.ensures (kept_listed _ c.if-not-is_listed.ensures) (rw c.entries_at-count.ensures at c.in_ok-work-2.ensures) c.retain_all.result (rw c.entries_at-count.ensures at c.retain_all.ensures)

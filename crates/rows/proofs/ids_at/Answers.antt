@@ -9,15 +9,12 @@ use Rattle.rows.proofs.CodeLaws.{ids_read}
 use Rattle.rows.proofs.ids_at.Goals as goal
 
 pub loop-j-init : goal.loop-j-init
-loop-j-init c = (omega arith, (search rules, filled_none _ _ _))
+loop-j-init c = (search rules, filled_none _ _ _)
 
 pub loop-j-preserved : goal.loop-j-preserved
 loop-j-preserved c =
     let v = c.loop-j.invariant in
-    (omega arith, (simp length-set v.1.0, filled_more v.1.1 (omega arith) (ap id_of c.cell_at-id.ensures)))
+    (simp length-set v.0, filled_more v.1 (omega arith) (ap id_of c.cell_at.ensures))
 
 pub returns : goal.returns
-returns c =
-    let a = c.args in
-    let v = c.loop-j.invariant in
-    ids_read a.cells.now a.at v.1.1 v.1.0 c.loop-j-test.false
+returns c = ids_read c.args.cells.now c.args.at c.loop-j.invariant.1 c.loop-j.invariant.0 (omega arith)

@@ -1,5 +1,5 @@
 -- `rows::ids_at` meets its contract.
-use Prim.Native.Nat.{◌+◌, ◌-◌, ◌≤◌}
+use Prim.Native.Nat.{◌+◌}
 use mathlib.Core.Path.{◌≡◌}
 use lib.ListN.{length, get_or}
 use Rattle.integers.proofs.Stores.{Filled}
@@ -7,7 +7,4 @@ use Rattle.rows.specs.Row.{id_of}
 use Rattle.rows.proofs.ids_at.Given as goal
 
 abbrev pub invariant-loop-j : goal.invariant-loop-j
-invariant-loop-j l = (l.j ≤ 16) × ((length l.ids ≡ 16) × Filled 0 (λ k. id_of (get_or l.cells (l.at + 7 + k) 0)) l.ids l.j)
-
-abbrev pub decreases-loop-j : goal.decreases-loop-j
-decreases-loop-j l = 16 - l.j
+invariant-loop-j l = (length l.ids ≡ 16) × Filled 0 (λ k. id_of (get_or l.cells (l.at + 7 + k) 0)) l.ids l.j

@@ -9,13 +9,13 @@ use Rattle.rows.proofs.CodeLaws.{id_put, ids_put}
 use Rattle.rows.proofs.put_ids.Goals as goal
 
 pub loop-j-init : goal.loop-j-init
-loop-j-init c = (omega arith, (refl, writing_none _ _ _))
+loop-j-init c = (refl, writing_none _ _ _)
 
 pub loop-j-preserved : goal.loop-j-preserved
 loop-j-preserved c =
     let v = c.loop-j.invariant in
     let p = c.put_cell.ensures in
-    (omega arith, (ap length p ∙ simp length-set v.1.0, id_put (row - 7) _ v.1.1 (omega arith) c.id_at.ensures p))
+    (ap length p ∙ simp length-set v.0, id_put (row - 7) _ v.1 (omega arith) c.id_at.ensures p)
 
 pub returns : goal.returns
-returns c = ids_put (row - 7) _ c.loop-j.invariant.1.1 c.loop-j-test.false
+returns c = ids_put (row - 7) _ c.loop-j.invariant.1 (omega arith)

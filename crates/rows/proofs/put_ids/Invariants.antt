@@ -1,7 +1,7 @@
 -- `rows::put_ids` meets its contract.
-use Prim.Native.Nat.{◌+◌, ◌-◌, ◌≤◌}
+use Prim.Native.Nat.{◌+◌, ◌-◌}
 use mathlib.Core.Path.{◌≡◌}
-use lib.ListN.{length, take}
+use lib.ListN.{length}
 use lib.Seq.{sets}
 use Rattle.integers.proofs.Stores.{Writing}
 use Rattle.rows.specs.Row.{row, padded}
@@ -9,8 +9,4 @@ use Rattle.rows.proofs.put_ids.Given as goal
 
 abbrev pub invariant-loop-j : goal.invariant-loop-j
 invariant-loop-j l =
-    (l.j ≤ row - 7) × ((length l.cells ≡ length l.initial.cells) ×
-    Writing (sets l.initial.cells (l.at + 7) (padded (row - 7) (take l.len l.ids))) l.cells (l.at + 7) (padded (row - 7) (take l.len l.ids)) l.j)
-
-abbrev pub decreases-loop-j : goal.decreases-loop-j
-decreases-loop-j l = row - 7 - l.j
+    (length l.cells ≡ length l.initial.cells) × Writing (sets l.initial.cells (l.at + 7) (padded (row - 7) l.ids)) l.cells (l.at + 7) (padded (row - 7) l.ids) l.j

@@ -15,6 +15,6 @@ returns-in-Some-Some c = join_on _ _ _ _ (went c.work.ensures c.in_ok-work.was) 
 pub returns-in_default : goal.returns-in_default
 returns-in_default c =
     elim c.in_default.branch [
-      in_default-via-in-Some+in_default w ↦ join_right _ _ _ _ (went c.work.ensures c.in_ok-work.was) c.hull-bound.ensures (first_is c.args.self.reason c.args.other.reason c.or-reason.ensures) w.in_default.ensures.list w.in_default.ensures'.list c.unlisted.ensures
-    | in_default-via-in_default w ↦ join_left _ _ _ _ (went c.work.ensures c.in_ok-work.was) c.hull-bound.ensures (first_is c.args.self.reason c.args.other.reason c.or-reason.ensures) w.in_default.ensures.list c.unlisted.ensures
+      | in_default-via-in-Some+in_default w ↦ join_right _ _ _ _ (went c.work.ensures c.in_ok-work.was) c.hull-bound.ensures (first_is c.args.self.reason c.args.other.reason c.or-reason.ensures) w.in_default.ensures.list w.in_default.ensures'.list c.unlisted.ensures
+      | in_default-via-in_default w ↦ join_left _ _ _ _ (went c.work.ensures c.in_ok-work.was) c.hull-bound.ensures (first_is c.args.self.reason c.args.other.reason c.or-reason.ensures) w.in_default.ensures.list c.unlisted.ensures
     ]

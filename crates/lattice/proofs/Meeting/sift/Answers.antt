@@ -18,8 +18,8 @@ returns-in_err-keep_one c = seen_exits ids_of c.from_residual.result c.from_resi
 pub loop-id-preserved : goal.loop-id-preserved
 loop-id-preserved c =
     elim c.if-branch.branch [
-      then-branch w ↦ sift_taken _ _ _ _ _ _ _ _ _ c.loop-id.invariant (omega arith) refl c.len.ensures (went c.keep_one.ensures (c.in_ok-keep_one.was ∙ ap Ok w.if-branch.true)) (ap ids_of w.kept-is ∙ w.push.ensures)
-    | else-branch w ↦ rw w.kept-is (sift_left _ _ _ _ _ _ _ _ _ c.loop-id.invariant (omega arith) refl c.len.ensures (went c.keep_one.ensures (c.in_ok-keep_one.was ∙ ap Ok w.if-branch.false)))
+      | then-branch w ↦ sift_taken _ _ _ _ _ _ _ _ _ c.loop-id.invariant (omega arith) refl c.len.ensures (went c.keep_one.ensures (c.in_ok-keep_one.was ∙ ap Ok w.if-branch.true)) (ap ids_of w.kept-is ∙ w.push.ensures)
+      | else-branch w ↦ rw w.kept-is (sift_left _ _ _ _ _ _ _ _ _ c.loop-id.invariant (omega arith) refl c.len.ensures (went c.keep_one.ensures (c.in_ok-keep_one.was ∙ ap Ok w.if-branch.false)))
     ]
 
 pub returns : goal.returns

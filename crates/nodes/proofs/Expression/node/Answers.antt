@@ -1,4 +1,5 @@
 -- `nodes::Expression::node` meets its contract.
+use mathlib.Core.Path.{◌∙◌}
 use Rattle.nodes.proofs.CodeLaws.{node_is, node_unary, node_binary, node_unknown}
 use Rattle.nodes.proofs.Expression.node.Goals as goal
 
@@ -18,4 +19,4 @@ pub returns-in-Binary : goal.returns-in-Binary
 returns-in-Binary c = node_binary c.in-Binary.is c.number-in-Binary.ensures c.node_of-in-Binary.ensures
 
 pub returns-in-Unknown : goal.returns-in-Unknown
-returns-in-Unknown c = node_unknown c.in-Unknown.is c.mark.ensures c.number-in-Unknown.ensures c.node_of-in-Unknown.ensures
+returns-in-Unknown c = node_unknown c.in-Unknown.is c.mark.ensures (c.from-in-Unknown.ensures ∙ c.from.ensures) c.node_of-in-Unknown.ensures
