@@ -2,89 +2,165 @@
 //! run, or the line of the first refusal.
 #![tactic(auto)]
 
+use keys::Key;
 use limits::{Limits, Refusal};
 use nodes::{BinaryOp, Expression};
-use report::Written;
 use rules::{Binding, BindingItem, Guard, GuardItem, Head, Lengths, Relation, Rule};
-use std::io::Stdout;
-use store::{Answer, Done, Store};
+use std::io::{Stdout, Write};
+use store::Store;
 
-// The store after a call, the call's id if it has one, and whether it was refused. After a refusal nothing more is called.
-#[derive(Clone, Copy)]
-struct Built {
+// A store and its tables.
+#[derive(Drop)]
+struct Design {
     store: Store,
-    id: u64,
-    refused: bool,
+    names: [u8; 65536],
+    constants: [u32; 2048],
+    order: [u32; 1024],
+    thresholds: [i32; 4096],
+    nodes: [u64; nodes::ROW * 1024],
+    predicates: [u32; 128],
+    seeds: [u32; rounds::ARGUMENTS],
+    records: [u32; 2048],
+    rules: [u32; rules::ROW * 256],
+    arguments: [u32; rounds::ARGUMENTS],
+    slots: [u32; results::BOUNDS],
 }
 
-// The ids of the constants and of the expressions, and the store after them.
-#[derive(Clone, Copy)]
-struct Numbers {
-    built: Built,
-    zero: u64,
-    one: u64,
-    ten: u64,
+impl Design {
+    // A design without anything in it.
+    fn new(store: Store) -> Design {
+        Design {
+            store,
+            names: [0; 65536],
+            constants: [0; 2048],
+            order: [0; 1024],
+            thresholds: [0; 4096],
+            nodes: [0; nodes::ROW * 1024],
+            predicates: [0; 128],
+            seeds: [0; rounds::ARGUMENTS],
+            records: [0; 2048],
+            rules: [0; rules::ROW * 256],
+            arguments: [0; rounds::ARGUMENTS],
+            slots: [0; results::BOUNDS],
+        }
+    }
+
+    // A predicate of one argument: the argument's id.
+    fn declare(&mut self) -> Result<u64, Refusal> {
+        let predicate = self
+            .store
+            .predicate(1, &mut self.predicates, &mut self.seeds)?;
+        let argument = self
+            .store
+            .argument(predicate as u64, 0, &self.predicates)?;
+        Ok(argument as u64)
+    }
+
+    fn number(&mut self, value: i32) -> Result<u64, Refusal> {
+        let id = constants::constant(
+            &mut self.store,
+            Key::Number(value),
+            &mut self.names,
+            &mut self.constants,
+            &mut self.order,
+            &mut self.thresholds,
+        )?;
+        Ok(id as u64)
+    }
+
+    fn seed(&mut self, argument: u64, constant: u64) -> Result<(), Refusal> {
+        seeds::seed_value(
+            &mut self.store,
+            argument,
+            constant,
+            &self.constants,
+            &mut self.seeds,
+            &mut self.records,
+        )
+    }
+
+    fn expression(&mut self, value: Expression) -> Result<u64, Refusal> {
+        let id = expressions::expression(&mut self.store, value, &mut self.nodes)?;
+        Ok(id as u64)
+    }
+
+    // The whole store up to its run.
+    fn build(&mut self) -> Result<(), Refusal> {
+        let argument = self.declare()?;
+        let zero = self.number(0)?;
+        let one = self.number(1)?;
+        let ten = self.number(10)?;
+        self.seed(argument, zero)?;
+        let slot = self.expression(Expression::Slot(0))?;
+        let step = self.expression(Expression::Constant(one))?;
+        let bound = self.expression(Expression::Constant(ten))?;
+        let next = self.expression(Expression::Binary(BinaryOp::Add, slot, step))?;
+        producers::rule(
+            &mut self.store,
+            &counting(argument, slot, bound, next),
+            &self.nodes,
+            &mut self.rules,
+            &mut self.records,
+        )?;
+        Ok(())
+    }
+
+    fn run(&mut self) -> Result<(), Refusal> {
+        engine::run(
+            &mut self.store,
+            &self.nodes,
+            &self.constants,
+            &self.rules,
+            &self.seeds,
+            &mut self.thresholds,
+            &mut self.arguments,
+            &mut self.slots,
+        )
+    }
+
+    // The five lines. The store has one argument, and one rule with one slot.
+    fn report(&self, output: Stdout) {
+        let mut line = [0; report::LINE];
+        let status = report::status_line(&self.store, &mut line);
+        tell(output, status, &line);
+        let argument = report::argument_line(&self.store, &self.arguments, 0, &mut line);
+        tell(output, argument, &line);
+        for after in [false, true] {
+            let slot = report::slot_line(
+                &self.store,
+                &self.rules,
+                &self.slots,
+                0,
+                0,
+                after,
+                &mut line,
+            );
+            tell(output, slot, &line);
+        }
+        let statistics = report::statistics_line(&self.store, &mut line);
+        tell(output, statistics, &line);
+    }
 }
 
-#[derive(Clone, Copy)]
-struct Forms {
-    built: Built,
-    slot: u64,
-    bound: u64,
-    next: u64,
-}
-
-// Writes the first `count` bytes of a line. A failed write is passed over.
-fn send(output: Stdout, line: &[u8], count: usize) {
-    if count <= line.len() {
-        let _ = output.write_all(&line[..count]);
+// Writes the first `len` bytes of a line. A failed write is passed over.
+fn send(output: Stdout, line: &[u8], len: usize) {
+    if let Some(bytes) = line.get(..len) {
+        let _ = output.write_all(bytes);
     }
 }
 
 fn complain(output: Stdout, refusal: Refusal) {
-    let mut line = [0u8; report::LINE];
-    match report::refusal_line(refusal, &mut line) {
-        Written::Length(n) => send(output, &line, n),
-        Written::Refused(_) => {}
+    let mut line = [0; report::LINE];
+    if let Ok(len) = report::refusal_line(refusal, &mut line) {
+        send(output, &line, len);
     }
 }
 
 // Writes a line of the report. A line that is refused says so.
-fn tell(output: Stdout, written: Written, line: &[u8]) {
+fn tell(output: Stdout, written: Result<usize, Refusal>, line: &[u8]) {
     match written {
-        Written::Length(n) => send(output, line, n),
-        Written::Refused(refusal) => complain(output, refusal),
-    }
-}
-
-fn refused(output: Stdout, refusal: Refusal, store: Store) -> Built {
-    complain(output, refusal);
-    Built {
-        store,
-        id: 0,
-        refused: true,
-    }
-}
-
-fn done(output: Stdout, done: Done) -> Built {
-    match done {
-        Done::Refused(refusal, store) => refused(output, refusal, store),
-        Done::Ok(store) => Built {
-            store,
-            id: 0,
-            refused: false,
-        },
-    }
-}
-
-fn answered(output: Stdout, answer: Answer) -> Built {
-    match answer {
-        Answer::Refused(refusal, store) => refused(output, refusal, store),
-        Answer::Id(id, store) => Built {
-            store,
-            id: id as u64,
-            refused: false,
-        },
+        Ok(len) => send(output, line, len),
+        Err(refusal) => complain(output, refusal),
     }
 }
 
@@ -103,81 +179,6 @@ fn limits() -> Limits {
     }
 }
 
-// A fresh store with a predicate of one argument: the argument's id.
-fn declare(output: Stdout, predicates: &mut [u32], seeds: &mut [u32]) -> Built {
-    let fresh = done(output, store::fresh(limits()));
-    if fresh.refused {
-        return fresh;
-    }
-    let store = fresh.store;
-    let declared = answered(output, store.predicate(1, predicates, seeds));
-    if declared.refused {
-        return declared;
-    }
-    let store = declared.store;
-    answered(output, store.argument(declared.id, 0, predicates))
-}
-
-fn number(
-    output: Stdout,
-    built: Built,
-    value: i32,
-    names: &mut [u8],
-    constants: &mut [u32],
-    order: &mut [u32],
-    thresholds: &mut [i32],
-) -> Built {
-    if built.refused {
-        return built;
-    }
-    answered(
-        output,
-        constants::constant_number(built.store, value, names, constants, order, thresholds),
-    )
-}
-
-fn seed(
-    output: Stdout,
-    built: Built,
-    argument: u64,
-    constant: u64,
-    constants: &[u32],
-    seeds: &mut [u32],
-    records: &mut [u32],
-) -> Built {
-    if built.refused {
-        return built;
-    }
-    done(
-        output,
-        seeds::seed_value(built.store, argument, constant, constants, seeds, records),
-    )
-}
-
-fn expression(output: Stdout, built: Built, value: Expression, nodes: &mut [u64]) -> Built {
-    if built.refused {
-        return built;
-    }
-    answered(output, expressions::expression(built.store, value, nodes))
-}
-
-fn rule(
-    output: Stdout,
-    built: Built,
-    rule: Rule,
-    nodes: &[u64],
-    rules: &mut [u32],
-    records: &mut [u32],
-) -> Built {
-    if built.refused {
-        return built;
-    }
-    answered(
-        output,
-        producers::rule(built.store, rule, nodes, rules, records),
-    )
-}
-
 // "The argument gets `next` where slot 0 is in the argument and `slot` < `bound`."
 fn counting(argument: u64, slot: u64, bound: u64, next: u64) -> Rule {
     let binding = Binding::Positive { slot: 0, argument };
@@ -190,146 +191,33 @@ fn counting(argument: u64, slot: u64, bound: u64, next: u64) -> Rule {
         argument,
         value: next,
     };
-    let lengths = Lengths {
-        bindings: 1,
-        guards: 1,
-        heads: 1,
-        queries: 0,
-    };
-    let bindings = [BindingItem { binding }; 32];
-    let guards = [GuardItem { guard }; 32];
-    let heads = [head; 16];
     Rule {
         slots: 1,
-        bindings,
-        guards,
-        heads,
-        lengths,
+        bindings: [BindingItem { binding }; 32],
+        guards: [GuardItem { guard }; 32],
+        heads: [head; 16],
+        lengths: Lengths {
+            bindings: 1,
+            guards: 1,
+            heads: 1,
+            queries: 0,
+        },
     }
 }
 
-// The constants 0, 1 and 10.
-fn values(
-    output: Stdout,
-    built: Built,
-    names: &mut [u8],
-    constants: &mut [u32],
-    order: &mut [u32],
-    thresholds: &mut [i32],
-) -> Numbers {
-    let zero = number(output, built, 0, names, constants, order, thresholds);
-    let one = number(output, zero, 1, names, constants, order, thresholds);
-    let ten = number(output, one, 10, names, constants, order, thresholds);
-    Numbers {
-        built: ten,
-        zero: zero.id,
-        one: one.id,
-        ten: ten.id,
-    }
-}
-
-// The expressions slot, 1, 10 and slot + 1.
-fn shapes(output: Stdout, built: Built, one: u64, ten: u64, nodes: &mut [u64]) -> Forms {
-    let slot = expression(output, built, Expression::Slot(0), nodes);
-    let step = expression(output, slot, Expression::Constant(one), nodes);
-    let bound = expression(output, step, Expression::Constant(ten), nodes);
-    let sum = Expression::Binary(BinaryOp::Add, slot.id, step.id);
-    let next = expression(output, bound, sum, nodes);
-    Forms {
-        built: next,
-        slot: slot.id,
-        bound: bound.id,
-        next: next.id,
-    }
-}
-
-// The whole store up to its run.
-fn build(
-    output: Stdout,
-    names: &mut [u8],
-    constants: &mut [u32],
-    order: &mut [u32],
-    thresholds: &mut [i32],
-    nodes: &mut [u64],
-    predicates: &mut [u32],
-    seeds: &mut [u32],
-    records: &mut [u32],
-    rules: &mut [u32],
-) -> Built {
-    let argument = declare(output, predicates, seeds);
-    let values = values(output, argument, names, constants, order, thresholds);
-    let seeded = seed(
-        output,
-        values.built,
-        argument.id,
-        values.zero,
-        constants,
-        seeds,
-        records,
-    );
-    let shapes = shapes(output, seeded, values.one, values.ten, nodes);
-    let counting = counting(argument.id, shapes.slot, shapes.bound, shapes.next);
-    rule(output, shapes.built, counting, nodes, rules, records)
-}
-
-// The five lines. The store has one argument, and one rule with one slot.
-fn report(output: Stdout, store: Store, rules: &[u32], arguments: &[u32], slots: &[u32]) {
-    let mut line = [0u8; report::LINE];
-    let status = report::status_line(store, &mut line);
-    tell(output, status, &line);
-    let argument = report::argument_line(store, arguments, 0, &mut line);
-    tell(output, argument, &line);
-    let before = report::slot_line(store, rules, slots, 0, 0, false, &mut line);
-    tell(output, before, &line);
-    let after = report::slot_line(store, rules, slots, 0, 0, true, &mut line);
-    tell(output, after, &line);
-    let statistics = report::statistics_line(store, &mut line);
-    tell(output, statistics, &line);
+// A design with its run, or the first refusal.
+fn bounded(design: &mut Design, fresh: Result<(), Refusal>) -> Result<(), Refusal> {
+    fresh?;
+    design.build()?;
+    design.run()
 }
 
 fn main(rt: HostRuntime) {
     let output = rt.stdout();
-    let mut names = [0u8; 65536];
-    let mut constants = [0u32; 2048];
-    let mut order = [0u32; 1024];
-    let mut thresholds = [0i32; 4096];
-    let mut nodes = [0u64; nodes::ROW * 1024];
-    let mut predicates = [0u32; 128];
-    let mut seeds = [0u32; rounds::ARGUMENTS];
-    let mut records = [0u32; 2048];
-    let mut rules = [0u32; rules::ROW * 256];
-    let mut arguments = [0u32; rounds::ARGUMENTS];
-    let mut slots = [0u32; results::BOUNDS];
-    let built = build(
-        output,
-        &mut names,
-        &mut constants,
-        &mut order,
-        &mut thresholds,
-        &mut nodes,
-        &mut predicates,
-        &mut seeds,
-        &mut records,
-        &mut rules,
-    );
-    if built.refused {
-        return;
+    let (store, fresh) = store::fresh(limits());
+    let mut design = Design::new(store);
+    match bounded(&mut design, fresh) {
+        Ok(()) => design.report(output),
+        Err(refusal) => complain(output, refusal),
     }
-    let ran = done(
-        output,
-        engine::run(
-            built.store,
-            &nodes,
-            &constants,
-            &rules,
-            &seeds,
-            &mut thresholds,
-            &mut arguments,
-            &mut slots,
-        ),
-    );
-    if ran.refused {
-        return;
-    }
-    report(output, ran.store, &rules, &arguments, &slots);
 }

@@ -1,18 +1,15 @@
 //! A header as 34 words: limits, statistics, counts of rows, the context, and the phase with its Stop and context. Any words are a header;
 //! words that are missing are 0.
 use limits::{Budget, Limits, Refusal, Resource, Statistics, Stop};
-use store::{Context, Counts, Phase, Store};
+use store::{Counts, Phase, Store};
 
 fn word(words: &[u64], i: usize) -> u64 {
-    if i < words.len() {
-        return words[i];
-    }
-    0
+    words.get(i).copied().unwrap_or(0)
 }
 
 fn put_word(words: &mut [u64], i: usize, word: u64) {
-    if i < words.len() {
-        words[i] = word;
+    if let Some(place) = words.get_mut(i) {
+        *place = word;
     }
 }
 
@@ -56,11 +53,11 @@ fn counts_of(words: &[u64]) -> Counts {
     }
 }
 
-fn context_of(mark: u64, context: u64) -> Context {
+fn context_of(mark: u64, context: u64) -> Option<u32> {
     if mark == 0 {
-        return Context::None;
+        return None;
     }
-    Context::Some((context % 4294967296) as u32)
+    Some((context % 4294967296) as u32)
 }
 
 fn resource_of(code: u64) -> Resource {
@@ -104,13 +101,12 @@ pub fn refusal_of(words: &[u64]) -> Refusal {
 }
 
 pub fn of(words: &[u64]) -> Store {
-    let limits = limits_of(words);
-    let statistics = statistics_of(words);
-    let budget = Budget { limits, statistics };
-    let counts = counts_of(words);
     Store {
-        budget,
-        counts,
+        budget: Budget {
+            limits: limits_of(words),
+            statistics: statistics_of(words),
+        },
+        counts: counts_of(words),
         context: context_of(word(words, 25), word(words, 26)),
         phase: phase_of(words),
     }
@@ -150,10 +146,10 @@ fn put_counts(words: &mut [u64], counts: Counts) {
     put_word(words, 24, counts.provenance as u64);
 }
 
-fn put_context(words: &mut [u64], at: usize, context: Context) {
+fn put_context(words: &mut [u64], at: usize, context: Option<u32>) {
     match context {
-        Context::None => put_pair(words, at, 0, 0),
-        Context::Some(number) => put_pair(words, at, 1, number as u64),
+        None => put_pair(words, at, 0, 0),
+        Some(number) => put_pair(words, at, 1, u64::from(number)),
     }
 }
 
@@ -165,9 +161,8 @@ fn put_pair(words: &mut [u64], at: usize, first: u64, second: u64) {
 }
 
 fn put_stop(words: &mut [u64], stop: Stop) {
-    let resource = stop.resource;
     put_word(words, 27, 3);
-    put_word(words, 28, resource.number());
+    put_word(words, 28, stop.resource.number());
     put_word(words, 29, stop.limit);
     put_word(words, 30, stop.high);
     put_word(words, 31, stop.low);
@@ -185,13 +180,10 @@ fn put_phase(words: &mut [u64], phase: Phase) {
     }
 }
 
-pub fn put(words: &mut [u64], store: Store) {
-    let budget = store.budget;
-    let context = store.context;
-    let phase = store.phase;
-    put_limits(words, budget.limits);
-    put_statistics(words, budget.statistics);
+pub fn put(words: &mut [u64], store: &Store) {
+    put_limits(words, store.budget.limits);
+    put_statistics(words, store.budget.statistics);
     put_counts(words, store.counts);
-    put_context(words, 25, context);
-    put_phase(words, phase);
+    put_context(words, 25, store.context);
+    put_phase(words, store.phase);
 }

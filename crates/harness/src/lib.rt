@@ -5,51 +5,36 @@
 mod header;
 mod parts;
 
-use numeric::{Bounded, Counted, Ended, Keyed, Read};
-use report::Written;
-use store::{Answer, Done};
+use keys::Key;
+use limits::Refusal;
 
-fn done(words: &mut [u64], answer: Done) -> u64 {
+// The number of a refusal, 0 for none.
+fn code<T: Copy>(answer: Result<T, Refusal>) -> u64 {
     match answer {
-        Done::Ok(store) => {
-            header::put(words, store);
-            0
-        }
-        Done::Refused(refusal, store) => {
-            header::put(words, store);
-            refusal.number()
-        }
-    }
-}
-
-fn answered(words: &mut [u64], answer: Answer) -> u64 {
-    match answer {
-        Answer::Id(_, store) => {
-            header::put(words, store);
-            0
-        }
-        Answer::Refused(refusal, store) => {
-            header::put(words, store);
-            refusal.number()
-        }
+        Ok(_) => 0,
+        Err(refusal) => refusal.number(),
     }
 }
 
 // `fresh`, with the limits that stand in the header.
 #[unsafe(no_mangle)]
 pub extern "C" fn harness_fresh(words: &mut [u64]) -> u64 {
-    let limits = header::limits_of(words);
-    done(words, store::fresh(limits))
+    let (store, answer) = store::fresh(header::limits_of(words));
+    header::put(words, &store);
+    code(answer)
 }
 
 // `context`, `work`.
 #[unsafe(no_mangle)]
 pub extern "C" fn harness_plain(call: u64, a: u64, words: &mut [u64]) -> u64 {
-    let store = header::of(words);
-    if call == 0 {
-        return done(words, store.context(parts::low(a)));
-    }
-    done(words, store.work(a))
+    let mut store = header::of(words);
+    let answer = if call == 0 {
+        store.context(parts::low(a))
+    } else {
+        store.work(a)
+    };
+    header::put(words, &store);
+    code(answer)
 }
 
 // `predicate`, `argument`.
@@ -62,11 +47,14 @@ pub extern "C" fn harness_predicate(
     predicates: &mut [u32],
     seeds: &mut [u32],
 ) -> u64 {
-    let store = header::of(words);
-    if call == 0 {
-        return answered(words, store.predicate(a, predicates, seeds));
-    }
-    answered(words, store.argument(a, b, predicates))
+    let mut store = header::of(words);
+    let answer = if call == 0 {
+        store.predicate(a, predicates, seeds)
+    } else {
+        store.argument(a, b, predicates)
+    };
+    header::put(words, &store);
+    code(answer)
 }
 
 // `constant`, for a number and for a name.
@@ -81,17 +69,15 @@ pub extern "C" fn harness_constant(
     order: &mut [u32],
     thresholds: &mut [i32],
 ) -> u64 {
-    let store = header::of(words);
-    if named {
-        return answered(
-            words,
-            constants::constant_name(store, text, names, constants, order, thresholds),
-        );
-    }
-    answered(
-        words,
-        constants::constant_number(store, value, names, constants, order, thresholds),
-    )
+    let mut store = header::of(words);
+    let key = if named {
+        Key::Name(text)
+    } else {
+        Key::Number(value)
+    };
+    let answer = constants::constant(&mut store, key, names, constants, order, thresholds);
+    header::put(words, &store);
+    code(answer)
 }
 
 // `expression`.
@@ -104,11 +90,10 @@ pub extern "C" fn harness_expression(
     words: &mut [u64],
     nodes: &mut [u64],
 ) -> u64 {
-    let store = header::of(words);
-    answered(
-        words,
-        expressions::expression(store, parts::expression(kind, a, b, c), nodes),
-    )
+    let mut store = header::of(words);
+    let answer = expressions::expression(&mut store, parts::expression(kind, a, b, c), nodes);
+    header::put(words, &store);
+    code(answer)
 }
 
 // `seed_value`, `seed_interval`.
@@ -125,17 +110,14 @@ pub extern "C" fn harness_seed(
     records: &mut [u32],
     thresholds: &mut [i32],
 ) -> u64 {
-    let store = header::of(words);
-    if call == 0 {
-        return done(
-            words,
-            seeds::seed_value(store, argument, value, constants, seeds, records),
-        );
-    }
-    done(
-        words,
-        seeds::seed_interval(store, argument, low, high, seeds, records, thresholds),
-    )
+    let mut store = header::of(words);
+    let answer = if call == 0 {
+        seeds::seed_value(&mut store, argument, value, constants, seeds, records)
+    } else {
+        seeds::seed_interval(&mut store, argument, low, high, seeds, records, thresholds)
+    };
+    header::put(words, &store);
+    code(answer)
 }
 
 // `rule`, made of any words.
@@ -147,11 +129,10 @@ pub extern "C" fn harness_rule(
     rules: &mut [u32],
     records: &mut [u32],
 ) -> u64 {
-    let store = header::of(words);
-    answered(
-        words,
-        producers::rule(store, parts::rule(rule), nodes, rules, records),
-    )
+    let mut store = header::of(words);
+    let answer = producers::rule(&mut store, &parts::rule(rule), nodes, rules, records);
+    header::put(words, &store);
+    code(answer)
 }
 
 // The run.
@@ -166,27 +147,12 @@ pub extern "C" fn harness_run(
     arguments: &mut [u32],
     slots: &mut [u32],
 ) -> u64 {
-    let store = header::of(words);
-    done(
-        words,
-        engine::run(
-            store, nodes, constants, rules, seeds, thresholds, arguments, slots,
-        ),
-    )
-}
-
-fn counted(answer: Counted) -> u64 {
-    match answer {
-        Counted::Given(_) => 0,
-        Counted::Refused(refusal) => refusal.number(),
-    }
-}
-
-fn read(answer: Read) -> u64 {
-    match answer {
-        Read::Given => 0,
-        Read::Refused(refusal) => refusal.number(),
-    }
+    let mut store = header::of(words);
+    let answer = engine::run(
+        &mut store, nodes, constants, rules, seeds, thresholds, arguments, slots,
+    );
+    header::put(words, &store);
+    code(answer)
 }
 
 // An argument, its contexts, and how the run ended.
@@ -200,21 +166,11 @@ pub extern "C" fn harness_read(
     records: &[u32],
 ) -> u64 {
     let store = header::of(words);
-    if call == 0 {
-        let answer = numeric::argument(store, arguments, a);
-        let outcome = answer.outcome;
-        return read(outcome);
-    }
-    if call == 1 {
-        return counted(numeric::context_count(store, records, a));
-    }
-    if call == 2 {
-        return counted(numeric::context(store, records, a, b));
-    }
-    match numeric::status(store) {
-        Ended::Completed => 0,
-        Ended::Stopped(_, _) => 0,
-        Ended::Refused(refusal) => refusal.number(),
+    match call {
+        0 => code(numeric::argument(&store, arguments, a)),
+        1 => code(numeric::context_count(&store, records, a)),
+        2 => code(numeric::context(&store, records, a, b)),
+        _ => code(numeric::status(&store)),
     }
 }
 
@@ -228,29 +184,13 @@ pub extern "C" fn harness_slot(
     rules: &[u32],
     slots: &[u32],
 ) -> u64 {
-    match numeric::slot(header::of(words), rules, slots, rule, slot, after) {
-        Bounded::Given(_) => 0,
-        Bounded::Refused(refusal) => refusal.number(),
-    }
+    code(numeric::slot(&header::of(words), rules, slots, rule, slot, after))
 }
 
 // A constant's key, and its name, of which the last byte is looked at.
 #[unsafe(no_mangle)]
 pub extern "C" fn harness_key(constant: u64, words: &[u64], constants: &[u32]) -> u64 {
-    match numeric::key(header::of(words), constants, constant) {
-        Keyed::Number(_) => 0,
-        Keyed::Name => 0,
-        Keyed::Large => 0,
-        Keyed::Refused(refusal) => refusal.number(),
-    }
-}
-
-fn last(bytes: &[u8]) -> u8 {
-    let n = bytes.len();
-    if n == 0 {
-        return 0;
-    }
-    bytes[n - 1]
+    code(numeric::key(&header::of(words), constants, constant))
 }
 
 #[unsafe(no_mangle)]
@@ -261,16 +201,15 @@ pub extern "C" fn harness_name(
     constants: &[u32],
     seen: &mut u8,
 ) -> u64 {
-    let mut refusal: u64 = 0;
-    let part = numeric::name(header::of(words), names, constants, constant, &mut refusal);
-    *seen = last(part);
-    refusal
-}
-
-fn written(answer: Written) -> u64 {
-    match answer {
-        Written::Length(_) => 0,
-        Written::Refused(refusal) => refusal.number(),
+    match numeric::name(&header::of(words), names, constants, constant) {
+        Ok(part) => {
+            *seen = *part.last().unwrap_or(&0);
+            0
+        }
+        Err(refusal) => {
+            *seen = 0;
+            refusal.number()
+        }
     }
 }
 
@@ -287,20 +226,12 @@ pub extern "C" fn harness_line(
     line: &mut [u8],
 ) -> u64 {
     let store = header::of(words);
-    if call == 0 {
-        return written(report::status_line(store, line));
-    }
-    if call == 1 {
-        return written(report::argument_line(store, arguments, a, line));
-    }
-    if call == 2 {
-        return written(report::slot_line(store, rules, slots, a, b, false, line));
-    }
-    if call == 3 {
-        return written(report::slot_line(store, rules, slots, a, b, true, line));
-    }
-    if call == 4 {
-        return written(report::statistics_line(store, line));
-    }
-    written(report::refusal_line(header::refusal_of(words), line))
+    code(match call {
+        0 => report::status_line(&store, line),
+        1 => report::argument_line(&store, arguments, a, line),
+        2 => report::slot_line(&store, rules, slots, a, b, false, line),
+        3 => report::slot_line(&store, rules, slots, a, b, true, line),
+        4 => report::statistics_line(&store, line),
+        _ => report::refusal_line(header::refusal_of(words), line),
+    })
 }

@@ -27,18 +27,18 @@ use Rattle.store.specs.declared.Phase.TheVariants.{Absent, Open, Completed, Stop
 use Rattle.store.specs.declared.Store.{Store}
 use Rattle.rules.specs.Rule.{row}
 use Rattle.rules.specs.Read.{slots_at}
-use Rattle.numeric.specs.declared.Read.{Read}
-use Rattle.numeric.specs.declared.Read.TheVariants.{Given, Refused}
-use Rattle.numeric.specs.declared.Valued.{Valued}
 use Rattle.numeric.specs.Reading.{Reading, given, refused, in_phase, reading, there, contexts_of, nth, recorded, bound_at, Kind, number, name, large, kind_of, Status, status_in, name_of, argument_reading, context_count_reading, context_reading, slot_reading, key_reading, name_reading, status_reading}
-use Rattle.numeric.specs.Answers.{permits, value_read, name_read}
+use Rattle.numeric.specs.Answers.{permits, reads}
+use Rattle.std.proofs.Common.{Result, Ok, Err}
+use Rattle.std.specs.Prelude.{IsErrAnd}
+use Rattle.std.proofs.lemmas.Result.{err_from_is_err_and}
 
 -- ---- sizes and phase
 
 -- what a reading gives once they are looked at
-abbrev following : {A : Type 0} → Read → Reading A → Reading A
-following Given x = x
-following (Refused e) x = refused (told e)
+abbrev following : {A : Type 0} → Result (Unit {0}) Refusal → Reading A → Reading A
+following (Ok u) x = x
+following (Err e) x = refused (told e)
 
 follows : {A : Type 0} (sized : Bool) (p : Phase) (x : Reading A) → following (permits sized p) x ≡ cond sized (in_phase p x) (refused (told Shape))
 follows false p x = refl
@@ -47,27 +47,17 @@ follows true Open x = refl
 follows true Completed x = refl
 follows true (Stopped e c) x = refl
 
-module _ {A : Type 0} (s : Store) (sized : Bool) (x : Reading A) where
-  pub turned_down : {e : Refusal} → permits sized s.phase ≡ Refused e → refused (told e) ≡ reading sized s x
-  turned_down h = ap (λ (r : Read). following r x) (sym h) ∙ follows sized s.phase x
+module _ {A : Type 0} (s : Store) (sized : Bool) (x : Reading A) {r : Result (Unit {0}) Refusal} (h : r ≡ permits sized s.phase) where
+  pub turned_down : {e : Refusal} → r ≡ Err e → refused (told e) ≡ reading sized s x
+  turned_down k = ap (λ (r : Result (Unit {0}) Refusal). following r x) (sym k ∙ h) ∙ follows sized s.phase x
 
-  pub permitted : {y : Reading A} → permits sized s.phase ≡ Given → y ≡ x → y ≡ reading sized s x
-  permitted h e = e ∙ (ap (λ (r : Read). following r x) (sym h) ∙ follows sized s.phase x)
+  pub permitted : {u : Unit {0}} {y : Reading A} → r ≡ Ok u → y ≡ x → y ≡ reading sized s x
+  permitted k e = e ∙ (ap (λ (r : Result (Unit {0}) Refusal). following r x) (sym k ∙ h) ∙ follows sized s.phase x)
 
--- the refusal is 1 or 5, which carry no values
-abbrev Plain : Read → Type 0
-Plain Given = Unit {0}
-Plain (Refused e) = name_read (told e).number [] ≡ refused (told e)
-
-plainly : (sized : Bool) (ph : Phase) → Plain (permits sized ph)
-plainly false ph = refl
-plainly true Absent = refl
-plainly true Open = refl
-plainly true Completed = tt
-plainly true (Stopped x c) = refl
-
-plain : (sized : Bool) (ph : Phase) {e : Refusal} → permits sized ph ≡ Refused e → name_read (told e).number [] ≡ refused (told e)
-plain sized ph h = subst Plain h (plainly sized ph)
+-- the exit of a `?`
+module _ {A B : Type 0} {y : Reading B} where
+  pub not_read : (f : A → B) (x : Result A Refusal) {e : Refusal} → IsErrAnd x (λ d. d ≡ e) → refused (told e) ≡ y → reads f x ≡ y
+  not_read f x h k = let p = err_from_is_err_and x h in rw (p.1, p.2) k
 
 -- ---- what exists
 
@@ -156,15 +146,15 @@ module _ (records : List ℕ) (a : ℕ) where
 
 -- ---- slots: those of rules that the table has rows for
 
-sized_true : (sized : Bool) (p : Phase) → permits sized p ≡ Given → sized ≡ true
+sized_true : (sized : Bool) (p : Phase) {u : Unit {0}} → permits sized p ≡ Ok u → sized ≡ true
 sized_true true p h = refl
 sized_true false p h = let z : ◌≡◌ {A = ℕ} 0 1 = ap mark h in absurd (omega arith)
   where
-    mark : Read → ℕ
-    mark Given = 1
-    mark (Refused e) = 0
+    mark : Result (Unit {0}) Refusal → ℕ
+    mark (Ok u) = 1
+    mark (Err e) = 0
 
-pub in_table : (rules : List ℕ) (r k : ℕ) (slots : ℕ) (p : Phase) → permits (eqb (length rules) (row * 256) && eqb slots 32768) p ≡ Given → k < slots_at rules r → (r < 256) × (k < 16)
+pub in_table : (rules : List ℕ) (r k : ℕ) (slots : ℕ) (p : Phase) {u : Unit {0}} → permits (eqb (length rules) (row * 256) && eqb slots 32768) p ≡ Ok u → k < slots_at rules r → (r < 256) × (k < 16)
 unfolding slots_at
 in_table rules r k slots p z h = (go (ltb r 256) refl, omega arith)
   where
@@ -178,141 +168,13 @@ in_table rules r k slots p z h = (go (ltb r 256) refl, omega arith)
         let n : get_or rules (row * r) 0 ≡ 0 = get_or-eq_default rules 0 (omega (arith, whole)) in
         absurd (omega (arith, n))
 
--- ---- each reading: refused by size or phase, of something that is missing, and given
-
-module _ (s : Store) (arguments : List ℕ) (a : ℕ) (y : Valued) {r : Read} (p : r ≡ permits (eqb (length arguments) (rows.row * 256)) s.phase) where
-  pub argument_down : {e : Refusal} → r ≡ Refused e → y.outcome ≡ Refused e → value_read y ≡ argument_reading s arguments a
-  unfolding argument_reading
-  argument_down h o = rw o (turned_down s (eqb (length arguments) (rows.row * 256)) (there (ltb a s.counts.positions) (value_at arguments a)) (sym p ∙ h))
-
-  pub argument_missing : r ≡ Given → s.counts.positions ≤ a → y.outcome ≡ Refused Missing → value_read y ≡ argument_reading s arguments a
-  unfolding argument_reading
-  argument_missing h l o =
-      rw o (permitted s (eqb (length arguments) (rows.row * 256)) (there (ltb a s.counts.positions) (value_at arguments a)) (sym p ∙ h) (missing a s.counts.positions (value_at arguments a) l))
-
-  pub argument_given : r ≡ Given → a < s.counts.positions → y.outcome ≡ Given → value_of y.value ≡ value_at arguments a → value_read y ≡ argument_reading s arguments a
-  unfolding argument_reading
-  argument_given h l o e =
-      rw o (permitted s (eqb (length arguments) (rows.row * 256)) (there (ltb a s.counts.positions) (value_at arguments a)) (sym p ∙ h) (stands a s.counts.positions l (ap given e)))
-
-module _ (s : Store) (records : List ℕ) (a : ℕ) {r : Read} (p : r ≡ permits (eqb (length records) 2048) s.phase) where
-  abbrev counted : Reading ℕ
-  counted = there (ltb a s.counts.positions) (length (recorded s records a))
-
-  pub count_down : {e : Refusal} → r ≡ Refused e → refused (told e) ≡ context_count_reading s records a
-  unfolding context_count_reading
-  count_down h = turned_down s (eqb (length records) 2048) counted (sym p ∙ h)
-
-  pub count_missing : r ≡ Given → s.counts.positions ≤ a → refused (told Missing) ≡ context_count_reading s records a
-  unfolding context_count_reading
-  count_missing h l = permitted s (eqb (length records) 2048) counted (sym p ∙ h) (missing a s.counts.positions (length (recorded s records a)) l)
-
-  pub count_given : r ≡ Given → a < s.counts.positions → {n : ℕ} → n ≡ length (recorded s records a) → given n ≡ context_count_reading s records a
-  unfolding context_count_reading
-  count_given h l e = permitted s (eqb (length records) 2048) counted (sym p ∙ h) (stands a s.counts.positions l (ap given e))
-
-  module _ (k : ℕ) where
-    abbrev asked : Reading ℕ
-    asked = cond (ltb a s.counts.positions) (nth (recorded s records a) k) (refused (told Missing))
-
-    pub context_down : {e : Refusal} → r ≡ Refused e → refused (told e) ≡ context_reading s records a k
-    unfolding context_reading
-    context_down h = turned_down s (eqb (length records) 2048) asked (sym p ∙ h)
-
-    pub context_missing : r ≡ Given → s.counts.positions ≤ a → refused (told Missing) ≡ context_reading s records a k
-    unfolding context_reading
-    context_missing h l = permitted s (eqb (length records) 2048) asked (sym p ∙ h) (rw (le-ltb a s.counts.positions l) refl)
-
-    pub context_given : r ≡ Given → a < s.counts.positions → {y : Reading ℕ} → y ≡ nth (recorded s records a) k → y ≡ context_reading s records a k
-    unfolding context_reading
-    context_given h l e = permitted s (eqb (length records) 2048) asked (sym p ∙ h) (rw (lt-ltb a s.counts.positions l) e)
-
-module _ (s : Store) (rules slots : List ℕ) (q k : ℕ) (after : Bool) {r : Read} (p : r ≡ permits (eqb (length rules) (row * 256) && eqb (length slots) 32768) s.phase) where
-  abbrev bounded : Reading Bound
-  bounded = cond (ltb q s.counts.rules) (cond (ltb k (slots_at rules q)) (given (bound_at slots (place q k after))) (refused (told MissingSlot))) (refused (told Missing))
-
-  pub slot_down : {e : Refusal} → r ≡ Refused e → refused (told e) ≡ slot_reading s rules slots q k after
-  unfolding slot_reading
-  slot_down h = turned_down s (eqb (length rules) (row * 256) && eqb (length slots) 32768) bounded (sym p ∙ h)
-
-  pub slot_missing : r ≡ Given → s.counts.rules ≤ q → refused (told Missing) ≡ slot_reading s rules slots q k after
-  unfolding slot_reading
-  slot_missing h l = permitted s (eqb (length rules) (row * 256) && eqb (length slots) 32768) bounded (sym p ∙ h) (rw (le-ltb q s.counts.rules l) refl)
-
-  pub slot_none : r ≡ Given → q < s.counts.rules → slots_at rules q ≤ k → refused (told MissingSlot) ≡ slot_reading s rules slots q k after
-  unfolding slot_reading
-  slot_none h l z = permitted s (eqb (length rules) (row * 256) && eqb (length slots) 32768) bounded (sym p ∙ h) (rw (lt-ltb q s.counts.rules l, le-ltb k (slots_at rules q) z) refl)
-
-  pub slot_given : r ≡ Given → q < s.counts.rules → k < slots_at rules q → {b : Bound} → b ≡ bound_at slots (place q k after) → given b ≡ slot_reading s rules slots q k after
-  unfolding slot_reading
-  slot_given h l z e = permitted s (eqb (length rules) (row * 256) && eqb (length slots) 32768) bounded (sym p ∙ h) (rw (lt-ltb q s.counts.rules l, lt-ltb k (slots_at rules q) z) (ap given e))
-
-  pub slot_here : r ≡ Given → k < slots_at rules q → (q < 256) × (k < 16)
-  slot_here h z = in_table rules q k (length slots) s.phase (sym p ∙ h) z
-
-module _ (s : Store) (constants : List ℕ) (k : ℕ) {r : Read} (p : r ≡ permits (eqb (length constants) 2048) s.phase) where
-  abbrev keyed : Reading Kind
-  keyed = there (ltb k s.counts.constants) (kind_of constants k)
-
-  pub key_down : {e : Refusal} → r ≡ Refused e → refused (told e) ≡ key_reading s constants k
-  unfolding key_reading
-  key_down h = turned_down s (eqb (length constants) 2048) keyed (sym p ∙ h)
-
-  pub key_missing : r ≡ Given → s.counts.constants ≤ k → refused (told Missing) ≡ key_reading s constants k
-  unfolding key_reading
-  key_missing h l = permitted s (eqb (length constants) 2048) keyed (sym p ∙ h) (missing k s.counts.constants (kind_of constants k) l)
-
-  pub key_given_lem : r ≡ Given → k < s.counts.constants → {y : Reading Kind} → y ≡ given (kind_of constants k) → y ≡ key_reading s constants k
-  unfolding key_reading
-  key_given_lem h l e = permitted s (eqb (length constants) 2048) keyed (sym p ∙ h) (stands k s.counts.constants l e)
-
-pub kind_number : (constants : List ℕ) (k : ℕ) {n : ℕ} {z : ℤ} → n ≡ kind_at constants k → n ≡ 1 → z ≡ of_cell (payload_at constants k) → given (number z) ≡ given (kind_of constants k)
-kind_number constants k h e q = rw (eq-eqb (kind_at constants k) 1 (sym h ∙ e), q) refl
-
-pub kind_name : (constants : List ℕ) (k : ℕ) {n : ℕ} → n ≡ kind_at constants k → (n ≡ 1 → ⊥) → n ≡ 2 → given name ≡ given (kind_of constants k)
-kind_name constants k h o e = rw (ne_eqb (kind_at constants k) 1 (λ z. o (h ∙ z)), eq-eqb (kind_at constants k) 2 (sym h ∙ e)) refl
-
-pub kind_large : (constants : List ℕ) (k : ℕ) {n : ℕ} → n ≡ kind_at constants k → (n ≡ 1 → ⊥) → (n ≡ 2 → ⊥) → given large ≡ given (kind_of constants k)
-kind_large constants k h o e = rw (ne_eqb (kind_at constants k) 1 (λ z. o (h ∙ z)), ne_eqb (kind_at constants k) 2 (λ z. e (h ∙ z))) refl
-
-module _ (s : Store) (names constants : List ℕ) (k : ℕ) {r : Read} (p : r ≡ permits (eqb (length names) 65536 && eqb (length constants) 2048) s.phase) where
-  abbrev named : Reading (List ℕ)
-  named = there (ltb k s.counts.constants) (name_of names constants k)
-
-  -- readings are refused with 1 or 5
-  pub name_down : {e : Refusal} {n : ℕ} → r ≡ Refused e → n ≡ (told e).number → name_read n [] ≡ name_reading s names constants k
-  unfolding name_reading
-  name_down h q =
-      ap (λ (n : ℕ). name_read n []) q
-      ∙ (plain (eqb (length names) 65536 && eqb (length constants) 2048) s.phase (sym p ∙ h) ∙ turned_down s (eqb (length names) 65536 && eqb (length constants) 2048) named (sym p ∙ h))
-
-  pub name_missing : r ≡ Given → s.counts.constants ≤ k → refused (told Missing) ≡ name_reading s names constants k
-  unfolding name_reading
-  name_missing h l = permitted s (eqb (length names) 65536 && eqb (length constants) 2048) named (sym p ∙ h) (missing k s.counts.constants (name_of names constants k) l)
-
-  pub name_given_lem : r ≡ Given → k < s.counts.constants → {t : List ℕ} → t ≡ name_of names constants k → given t ≡ name_reading s names constants k
-  unfolding name_reading
-  name_given_lem h l e = permitted s (eqb (length names) 65536 && eqb (length constants) 2048) named (sym p ∙ h) (stands k s.counts.constants l (ap given e))
+-- ---- names, a bound at its place
 
 pub no_name : (names constants : List ℕ) (k : ℕ) {n : ℕ} → n ≡ kind_at constants k → (n ≡ 2 → ⊥) → [] ≡ name_of names constants k
 no_name names constants k h o = rw (ne_eqb (kind_at constants k) 2 (λ z. o (h ∙ z))) refl
 
 pub a_name : (names constants : List ℕ) (k : ℕ) {n m : ℕ} {t : List ℕ} → n ≡ kind_at constants k → n ≡ 2 → m ≡ payload_at constants k → t ≡ name_at names k m → t ≡ name_of names constants k
 a_name names constants k h e q z = rw (eq-eqb (kind_at constants k) 2 (sym h ∙ e)) (z ∙ ap (name_at names k) q)
-
--- ---- sizes, one after the other
-
-pub both_not : (a b m n : ℕ) → (a ≡ m → ⊥) → false ≡ (eqb a m && eqb b n)
-both_not a b m n h = rw (ne_eqb a m h) refl
-
-pub both_then : (a b m n : ℕ) → a ≡ m → eqb b n ≡ (eqb a m && eqb b n)
-both_then a b m n h = rw (eq-eqb a m h) refl
-
--- ---- how the run ended, and a bound at its place
-
-pub status_in_lem : (s : Store) {p : Phase} {y : Reading Status} → s.phase ≡ p → y ≡ status_in p → y ≡ status_reading s
-unfolding status_reading
-status_in_lem s h e = rw h e
 
 pub bound_read_lem : (cells : List ℕ) (at : ℕ) {i : Integrality} {v : Interval} {a b c d : ℕ} →
     a ≡ get_or cells at 0 → i ≡ integrality_of a → b ≡ get_or cells (at + 1) 0 → c ≡ get_or cells (at + 2) 0 → d ≡ get_or cells (at + 3) 0 → v ≡ interval_of b (of_cell c) (of_cell d) →

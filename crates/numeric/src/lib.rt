@@ -2,117 +2,52 @@
 //! A reading changes nothing, and holds for any header and any contents. The statistics are a field of the header.
 #![tactic(auto)]
 
-ghost use Rattle.std.specs.Prelude.{◌≡◌, ◌&&◌, ◌*◌, ◌<◌, ◌≤◌, min, eqb, length, get_or};
+ghost use Rattle.std.specs.Prelude.{◌≡◌, ◌&&◌, ◌*◌, ◌<◌, ◌≤◌, eqb, length, get_or};
 ghost use Rattle.rules.specs.Rule.{row};
 ghost use Rattle.results.specs.Result.{place};
-ghost use Rattle.numeric.specs.Reading.{given, there, contexts_of, nth, bound_at, kind_of, name_of, argument_reading, context_count_reading, context_reading, slot_reading, key_reading, name_reading, status_reading};
-ghost use Rattle.numeric.specs.declared.Read.TheVariants.{Refused};
-ghost use Rattle.numeric.specs.Answers.{permits, value_read, count_read, bound_read, key_read, status_read, name_read};
+ghost use Rattle.numeric.specs.Reading.{given, contexts_of, nth, bound_at, kind_of, name_of, argument_reading, context_count_reading, context_reading, slot_reading, key_reading, name_reading, status_reading};
+ghost use Rattle.lattice.specs.Value.{value_of};
+ghost use Rattle.numeric.specs.Answers.{permits, reads, kind, status};
 
-use interval::Bound;
+use interval::{Bound, Constant};
 use lattice::Abstract;
 use limits::{Refusal, Stop};
 use store::{Phase, Store};
 
-// Whether a reading is given.
-#[derive(Clone, Copy)]
-pub enum Read {
-    Given,
-    Refused(Refusal),
-}
-
-// An argument: its bound, list and reason. Where it is refused the value means nothing.
-#[derive(Clone, Copy)]
-pub struct Valued {
-    pub outcome: Read,
-    pub value: Abstract,
-}
-
-// A number of contexts, or a context.
-#[derive(Clone, Copy)]
-pub enum Counted {
-    Given(u64),
-    Refused(Refusal),
-}
-
-// The bound of a slot.
-#[derive(Clone, Copy)]
-pub enum Bounded {
-    Given(Bound),
-    Refused(Refusal),
-}
-
-// The key of a constant. The bytes of a name are a reading of their own; a large name is one that is not retained.
-#[derive(Clone, Copy)]
-pub enum Keyed {
-    Number(i32),
-    Name,
-    Large,
-    Refused(Refusal),
-}
-
 // How the run ended: stopped, with its Stop and the context in force there.
-#[derive(Clone, Copy)]
+#[derive(Clone, Copy, Debug, PartialEq, Eq)]
 pub enum Ended {
     Completed,
     Stopped(Stop, Option<u32>),
-    Refused(Refusal),
 }
 
 // The records that the table of provenance has rows for.
 const RECORDS: usize = 1024;
 
 // Whether a phase permits readings over tables of these sizes.
-fn permits(sized: bool, phase: Phase) -> Read
+fn permit(sized: bool, phase: Phase) -> Result<(), Refusal>
     ensures { result ≡ permits sized phase }
 {
     if !sized {
-        return Read::Refused(Refusal::Shape);
+        return Err(Refusal::Shape);
     }
     match phase {
-        Phase::Absent => Read::Refused(Refusal::Closed),
-        Phase::Open => Read::Refused(Refusal::Closed),
-        Phase::Completed => Read::Given,
-        Phase::Stopped(_, _) => Read::Refused(Refusal::Missing),
-    }
-}
-
-fn refused(refusal: Refusal) -> Valued
-    ensures { result.outcome ≡ Refused refusal }
-{
-    Valued {
-        outcome: Read::Refused(refusal),
-        value: Abstract::bottom(),
+        Phase::Absent | Phase::Open => Err(Refusal::Closed),
+        Phase::Completed => Ok(()),
+        Phase::Stopped(_, _) => Err(Refusal::Missing),
     }
 }
 
 // An argument's bound, list and reason.
-pub fn argument(store: Store, arguments: &[u32], argument: u64) -> Valued
-    ensures { value_read result ≡ argument_reading store arguments.now argument }
+#[tactic(auto, unfolding(crate::specs::Reading::argument_reading))]
+pub fn argument(store: &Store, arguments: &[u32], argument: u64) -> Result<Abstract, Refusal>
+    ensures { reads value_of result ≡ argument_reading store.now arguments.now argument }
 {
-    let counts = store.counts;
-    let phase = store.phase;
-    match permits(arguments.len() == rounds::ARGUMENTS, phase) {
-        Read::Refused(refusal) => refused(refusal),
-        Read::Given => {
-            if counts.positions as u64 <= argument {
-                return refused(Refusal::Missing);
-            }
-            Valued {
-                outcome: Read::Given,
-                value: rows::abstract_at(arguments, argument as usize),
-            }
-        }
+    permit(arguments.len() == rounds::ARGUMENTS, store.phase)?;
+    if store.counts.positions as u64 <= argument {
+        return Err(Refusal::Missing);
     }
-}
-
-fn least(a: usize, b: usize) -> usize
-    ensures { result ≡ min a b }
-{
-    if a < b {
-        return a;
-    }
-    b
+    Ok(rows::abstract_at(arguments, argument as usize))
 }
 
 // Whether a record is of an argument.
@@ -128,69 +63,54 @@ fn count_contexts(records: &[u32], count: usize, argument: u64) -> u64
     requires { count ≤ 1024 }
     ensures { result ≡ length (contexts_of records.now count argument) }
 {
-    let mut found: u64 = 0;
-    let mut i: usize = 0;
-    while i < count {
+    let mut found = 0;
+    for i in 0..count {
         if is_of(records, i, argument) {
             found += 1;
         }
-        i += 1;
     }
     found
 }
 
 // The k-th context of an argument among the first `count` records.
-fn find_context(records: &[u32], count: usize, argument: u64, k: u64) -> Counted
+fn find_context(records: &[u32], count: usize, argument: u64, k: u64) -> Result<u64, Refusal>
     requires { count ≤ 1024 }
-    ensures { count_read result ≡ nth (contexts_of records.now count argument) k }
+    ensures { reads (λ n. n) result ≡ nth (contexts_of records.now count argument) k }
 {
-    let mut found: u64 = 0;
-    let mut i: usize = 0;
-    while i < count {
+    let mut found = 0;
+    for i in 0..count {
         if is_of(records, i, argument) {
             if found == k {
-                return Counted::Given(cells::cell_at(records, 2 * i + 1) as u64);
+                return Ok(cells::cell_at(records, 2 * i + 1) as u64);
             }
             found += 1;
         }
-        i += 1;
     }
-    Counted::Refused(Refusal::Missing)
+    Err(Refusal::Missing)
 }
 
 // How many contexts an argument is recorded with.
-pub fn context_count(store: Store, records: &[u32], argument: u64) -> Counted
-    ensures { count_read result ≡ context_count_reading store records.now argument }
+#[tactic(auto, unfolding(crate::specs::Reading::context_count_reading))]
+pub fn context_count(store: &Store, records: &[u32], argument: u64) -> Result<u64, Refusal>
+    ensures { reads (λ n. n) result ≡ context_count_reading store.now records.now argument }
 {
-    let counts = store.counts;
-    let phase = store.phase;
-    match permits(records.len() == 2 * RECORDS, phase) {
-        Read::Refused(refusal) => Counted::Refused(refusal),
-        Read::Given => {
-            if counts.positions as u64 <= argument {
-                return Counted::Refused(Refusal::Missing);
-            }
-            let count = least(counts.provenance, RECORDS);
-            Counted::Given(count_contexts(records, count, argument))
-        }
+    permit(records.len() == 2 * RECORDS, store.phase)?;
+    if store.counts.positions as u64 <= argument {
+        return Err(Refusal::Missing);
     }
+    Ok(count_contexts(records, store.counts.provenance.min(RECORDS), argument))
 }
 
 // The k-th of them, in the order recorded.
-pub fn context(store: Store, records: &[u32], argument: u64, k: u64) -> Counted
-    ensures { count_read result ≡ context_reading store records.now argument k }
+#[tactic(auto, unfolding(crate::specs::Reading::context_reading))]
+pub fn context(store: &Store, records: &[u32], argument: u64, k: u64) -> Result<u64, Refusal>
+    ensures { reads (λ n. n) result ≡ context_reading store.now records.now argument k }
 {
-    let counts = store.counts;
-    let phase = store.phase;
-    match permits(records.len() == 2 * RECORDS, phase) {
-        Read::Refused(refusal) => Counted::Refused(refusal),
-        Read::Given => {
-            if counts.positions as u64 <= argument {
-                return Counted::Refused(Refusal::Missing);
-            }
-            find_context(records, least(counts.provenance, RECORDS), argument, k)
-        }
+    permit(records.len() == 2 * RECORDS, store.phase)?;
+    if store.counts.positions as u64 <= argument {
+        return Err(Refusal::Missing);
     }
+    find_context(records, store.counts.provenance.min(RECORDS), argument, k)
 }
 
 // The bound that stands at a place of the table of slots.
@@ -214,82 +134,52 @@ fn place(rule: usize, slot: usize, after: bool) -> usize
     ensures { result ≡ place rule slot after }
 {
     let at = results::RULE * rule + 8 * slot;
-    if after {
-        return at + 4;
-    }
-    at
-}
-
-fn slots_sized(rules: usize, slots: usize) -> bool
-    ensures { result ≡ eqb rules (row * 256) && eqb slots 32768 }
-{
-    if rules != rules::ROW * 256 {
-        return false;
-    }
-    slots == results::BOUNDS
+    if after { at + 4 } else { at }
 }
 
 // The bound of a rule's slot, before guards or after them.
+#[tactic(auto, unfolding(crate::specs::Reading::slot_reading))]
 pub fn slot(
-    store: Store,
+    store: &Store,
     rules: &[u32],
     slots: &[u32],
     rule: u64,
     slot: u64,
     after: bool,
-) -> Bounded
-    ensures { bound_read result ≡ slot_reading store rules.now slots.now rule slot after }
+) -> Result<Bound, Refusal>
+    ensures { reads (λ b. b) result ≡ slot_reading store.now rules.now slots.now rule slot after }
 {
-    let counts = store.counts;
-    let phase = store.phase;
-    match permits(slots_sized(rules.len(), slots.len()), phase) {
-        Read::Refused(refusal) => Bounded::Refused(refusal),
-        Read::Given => {
-            if counts.rules as u64 <= rule {
-                return Bounded::Refused(Refusal::Missing);
-            }
-            if rules::slots_at(rules, rule as usize) <= slot {
-                return Bounded::Refused(Refusal::MissingSlot);
-            }
-            Bounded::Given(bound_at(slots, place(rule as usize, slot as usize, after)))
-        }
+    let sized = rules.len() == rules::ROW * 256 && slots.len() == results::BOUNDS;
+    permit(sized, store.phase)?;
+    if store.counts.rules as u64 <= rule {
+        return Err(Refusal::Missing);
     }
+    if rules::slots_at(rules, rule as usize) <= slot {
+        return Err(Refusal::MissingSlot);
+    }
+    Ok(bound_at(slots, place(rule as usize, slot as usize, after)))
 }
 
 // The key of a constant, but for the bytes of a name.
-pub fn key(store: Store, constants: &[u32], constant: u64) -> Keyed
-    ensures { key_read result ≡ key_reading store constants.now constant }
+#[tactic(auto, unfolding(crate::specs::Reading::key_reading))]
+pub fn key(store: &Store, constants: &[u32], constant: u64) -> Result<Constant, Refusal>
+    ensures { reads kind result ≡ key_reading store.now constants.now constant }
 {
-    let counts = store.counts;
-    let phase = store.phase;
-    match permits(constants.len() == 2048, phase) {
-        Read::Refused(refusal) => Keyed::Refused(refusal),
-        Read::Given => {
-            if counts.constants as u64 <= constant {
-                return Keyed::Refused(Refusal::Missing);
-            }
-            kind_of(constants, constant as usize)
-        }
+    permit(constants.len() == 2048, store.phase)?;
+    if store.counts.constants as u64 <= constant {
+        return Err(Refusal::Missing);
     }
+    Ok(kind_of(constants, constant as usize))
 }
 
-fn kind_of(constants: &[u32], id: usize) -> Keyed
-    ensures { key_read result ≡ given (kind_of constants.now id) }
+fn kind_of(constants: &[u32], id: usize) -> Constant
+    ensures { kind result ≡ kind_of constants.now id }
 {
-    let kind = keys::kind_at(constants, id);
-    if kind == 1 {
-        return Keyed::Number(cells::of_cell(keys::payload_at(constants, id)));
+    match keys::kind_at(constants, id) {
+        1 => Constant::Number(cells::of_cell(keys::payload_at(constants, id))),
+        2 => Constant::Name,
+        _ => Constant::Large,
     }
-    if kind == 2 {
-        return Keyed::Name;
-    }
-    Keyed::Large
-}
-
-fn wide(x: u32) -> usize
-    ensures { result ≡ x }
-{
-    x as usize
 }
 
 // The bytes of a constant's name, if it has one that is retained.
@@ -299,56 +189,35 @@ fn name_of<'a>(names: &'a [u8], constants: &[u32], id: usize) -> &'a [u8]
     if keys::kind_at(constants, id) != 2 {
         return &names[..0];
     }
-    keys::name_at(names, id, wide(keys::payload_at(constants, id)))
+    keys::name_at(names, id, keys::payload_at(constants, id) as usize)
 }
 
-fn names_sized(names: usize, constants: usize) -> bool
-    ensures { result ≡ eqb names 65536 && eqb constants 2048 }
-{
-    if names != 65536 {
-        return false;
-    }
-    constants == 2048
-}
-
-// The name of a constant, a part of the lent name store. The number of the refusal, 0 for none, is handed back beside it, so that an
-// empty part never stands for a refusal.
+// The name of a constant, a part of the lent name store: empty where it has none that is retained.
+#[tactic(auto, unfolding(crate::specs::Reading::name_reading))]
 pub fn name<'a>(
-    store: Store,
+    store: &Store,
     names: &'a [u8],
     constants: &[u32],
     constant: u64,
-    refusal: &mut u64,
-) -> &'a [u8]
-    ensures { name_read refusal.new result.now ≡ name_reading store names.now constants.now constant }
+) -> Result<&'a [u8], Refusal>
+    ensures { reads (λ p. p.now) result ≡ name_reading store.now names.now constants.now constant }
 {
-    let counts = store.counts;
-    let phase = store.phase;
-    match permits(names_sized(names.len(), constants.len()), phase) {
-        Read::Refused(cause) => {
-            *refusal = cause.number();
-            return &names[..0];
-        }
-        Read::Given => {
-            if counts.constants as u64 <= constant {
-                *refusal = 5;
-                return &names[..0];
-            }
-            *refusal = 0;
-            name_of(names, constants, constant as usize)
-        }
+    let sized = names.len() == 65536 && constants.len() == 2048;
+    permit(sized, store.phase)?;
+    if store.counts.constants as u64 <= constant {
+        return Err(Refusal::Missing);
     }
+    Ok(name_of(names, constants, constant as usize))
 }
 
 // How the run ended.
-pub fn status(store: Store) -> Ended
-    ensures { status_read result ≡ status_reading store }
+#[tactic(auto, unfolding(crate::specs::Reading::status_reading))]
+pub fn status(store: &Store) -> Result<Ended, Refusal>
+    ensures { reads status result ≡ status_reading store.now }
 {
-    let phase = store.phase;
-    match phase {
-        Phase::Absent => Ended::Refused(Refusal::Closed),
-        Phase::Open => Ended::Refused(Refusal::Closed),
-        Phase::Completed => Ended::Completed,
-        Phase::Stopped(stop, context) => Ended::Stopped(stop, context),
+    match store.phase {
+        Phase::Absent | Phase::Open => Err(Refusal::Closed),
+        Phase::Completed => Ok(Ended::Completed),
+        Phase::Stopped(stop, context) => Ok(Ended::Stopped(stop, context)),
     }
 }

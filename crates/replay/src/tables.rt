@@ -1,36 +1,34 @@
-//! The buffers and the tables of a job. Their lengths stand in their types, so that no proof has to carry them.
-use std::io::{Stdin, Stdout};
+//! The tables of a job, which a later fresh store finds as the last one left them.
 
-pub type Buffer = [u8; 65536];
-
-// Standard input, and the buffer that it is read into.
 #[derive(Drop)]
-pub struct InputBuffer {
-    pub from: Stdin,
-    pub bytes: Buffer,
+pub struct Tables {
+    pub names: [u8; 65536],
+    pub constants: [u32; 2048],
+    pub order: [u32; 1024],
+    pub thresholds: [i32; 4096],
+    pub nodes: [u64; nodes::ROW * 1024],
+    pub predicates: [u32; 128],
+    pub seeds: [u32; rounds::ARGUMENTS],
+    pub records: [u32; 2048],
+    pub rules: [u32; rules::ROW * 256],
+    pub arguments: [u32; rounds::ARGUMENTS],
+    pub slots: [u32; results::BOUNDS],
 }
 
-// Standard output, and the buffer of what is not written out yet.
-#[derive(Drop)]
-pub struct OutputBuffer {
-    pub to: Stdout,
-    pub bytes: Buffer,
+impl Tables {
+    pub fn new() -> Tables {
+        Tables {
+            names: [0; 65536],
+            constants: [0; 2048],
+            order: [0; 1024],
+            thresholds: [0; 4096],
+            nodes: [0; nodes::ROW * 1024],
+            predicates: [0; 128],
+            seeds: [0; rounds::ARGUMENTS],
+            records: [0; 2048],
+            rules: [0; rules::ROW * 256],
+            arguments: [0; rounds::ARGUMENTS],
+            slots: [0; results::BOUNDS],
+        }
+    }
 }
-
-pub type Constants = [u32; 2048];
-
-pub type Order = [u32; 1024];
-
-pub type Thresholds = [i32; 4096];
-
-pub type Nodes = [u64; nodes::ROW * 1024];
-
-pub type Predicates = [u32; 128];
-
-pub type Arguments = [u32; rounds::ARGUMENTS];
-
-pub type Records = [u32; 2048];
-
-pub type Rules = [u32; rules::ROW * 256];
-
-pub type Slots = [u32; results::BOUNDS];

@@ -19,14 +19,15 @@ use Rattle.text.specs.Text.{decimal, spaced, spaced_words}
 use Rattle.text.specs.Answers.{Puts}
 use Rattle.text.proofs.Putting.{Leads, leads_more, leads_all, puts_then, puts_same}
 use Rattle.text.proofs.Words.{spaced_words_lem}
-use Rattle.numeric.specs.declared.Read.{Read}
-use Rattle.numeric.specs.declared.Valued.{Valued}
-use Rattle.numeric.specs.declared.Bounded as numeric
 use Rattle.numeric.specs.declared.Ended.{Ended}
 use Rattle.numeric.specs.Reading.{Reading, given, refused, argument_reading, slot_reading, status_reading}
-use Rattle.numeric.specs.Answers.{read_as, value_read, bound_read, status_read}
-use Rattle.report.specs.declared.Written.TheVariants.{Length, Refused}
-use Rattle.report.specs.Line.{told_words, status_text, argument_text, slot_text, statistics_text, refusal_text, line_of, status_line, argument_line, slot_line, statistics_line, refusal_line, lined, on_buffer, written}
+use Rattle.numeric.specs.Answers.{reads, status}
+use Rattle.std.proofs.Common.{Result, Ok, Err}
+use Rattle.std.specs.Prelude.{IsErrAnd}
+use Rattle.std.proofs.lemmas.Result.{err_from_is_err_and}
+use Rattle.interval.specs.declared.Bound.{Bound}
+use Rattle.lattice.specs.declared.Abstract.{Abstract}
+use Rattle.report.specs.Line.{Lined, told_words, status_text, argument_text, slot_text, statistics_text, refusal_text, line_of, status_line, argument_line, slot_line, statistics_line, refusal_line, lined, on_buffer, written}
 
 -- ---- a head word, byte by byte
 
@@ -70,13 +71,13 @@ module _ {e : Refusal} {n a b : ℕ} {l m : List ℕ} where
 -- ---- in the lent buffer
 
 module _ (buffer : List ℕ) (r : Reading (List ℕ)) where
-  pub lined_shape : (length buffer ≡ 256 → ⊥) → written (Refused Shape) buffer ≡ on_buffer buffer r
+  pub lined_shape : (length buffer ≡ 256 → ⊥) → written (Err Shape) buffer ≡ on_buffer buffer r
   lined_shape h = rw (ne_eqb (length buffer) 256 h)
 
-  pub lined_refused : (e : Refusal) → length buffer ≡ 256 → r ≡ refused (told e) → written (Refused e) buffer ≡ on_buffer buffer r
+  pub lined_refused : (e : Refusal) → length buffer ≡ 256 → r ≡ refused (told e) → written (Err e) buffer ≡ on_buffer buffer r
   lined_refused e h g = rw (eq-eqb (length buffer) 256 h, g)
 
-  pub lined_given : {t : List ℕ} {n : ℕ} {after : List ℕ} → length buffer ≡ 256 → r ≡ given t → Puts t 0 buffer n after → written (Length n) after ≡ on_buffer buffer r
+  pub lined_given : {t : List ℕ} {n : ℕ} {after : List ℕ} → length buffer ≡ 256 → r ≡ given t → Puts t 0 buffer n after → written (Ok n) after ≡ on_buffer buffer r
   lined_given {t} {n} h g p =
       let e : n ≡ length t = omega (arith, p.place) in
       rw (eq-eqb (length buffer) 256 h, g) (λ i. lined (given (e i)) (p.line i))
@@ -89,18 +90,22 @@ pub refusal_lined : (e : Refusal) → refusal_line e ≡ given (refusal_text (to
 unfolding refusal_line
 refusal_lined e = refl
 
--- what is read, by the outcome that the code took apart
+-- what is read, by the answer that the code took apart
 module _ (s : Store) where
-  pub status_lined : {r k : Ended} → status_read r ≡ status_reading s → r ≡ k → status_line s ≡ line_of (status_text s) (status_read k)
+  pub status_lined : {r k : Result Ended Refusal} → reads status r ≡ status_reading s → r ≡ k → status_line s ≡ line_of (status_text s) (reads status k)
   unfolding status_line
   status_lined h e = rw (← h, e)
 
-  pub argument_lined : (arguments : List ℕ) (a : ℕ) (r : Valued) {k : Read} → value_read r ≡ argument_reading s arguments a → r.outcome ≡ k →
-      argument_line s arguments a ≡ line_of (argument_text a) (read_as k (value_of r.value))
+  pub argument_lined : (arguments : List ℕ) (a : ℕ) {r k : Result Abstract Refusal} → reads value_of r ≡ argument_reading s arguments a → r ≡ k →
+      argument_line s arguments a ≡ line_of (argument_text a) (reads value_of k)
   unfolding argument_line
-  argument_lined arguments a r h e = rw (← h, e)
+  argument_lined arguments a h e = rw (← h, e)
 
-  pub slot_lined : (rules slots : List ℕ) (i k : ℕ) (after : Bool) {r b : numeric.Bounded} → bound_read r ≡ slot_reading s rules slots i k after → r ≡ b →
-      slot_line s rules slots i k after ≡ line_of (slot_text i k after) (bound_read b)
+  pub slot_lined : (rules slots : List ℕ) (i k : ℕ) (after : Bool) {r b : Result Bound Refusal} → reads (λ b. b) r ≡ slot_reading s rules slots i k after → r ≡ b →
+      slot_line s rules slots i k after ≡ line_of (slot_text i k after) (reads (λ b. b) b)
   unfolding slot_line
   slot_lined rules slots i k after h e = rw (← h, e)
+
+-- the exit of a `?`
+pub not_written : (x : Result ℕ Refusal) {e : Refusal} {b : List ℕ} {y : Lined} → IsErrAnd x (λ d. d ≡ e) → written (Err e) b ≡ y → written x b ≡ y
+not_written x h k = let p = err_from_is_err_and x h in rw (p.1, p.2) k

@@ -1,5 +1,5 @@
 -- The lines of the report: what each is of a store, and what writing one leaves in a lent buffer.
-use Rattle.std.specs.Prelude.{ℕ, Bool, cond, List, [], ◌∷◌, ◌++◌, map, eqb, length}
+use Rattle.std.specs.Prelude.{ℕ, Bool, cond, List, [], ◌∷◌, ◌++◌, map, eqb, length, Result, Ok, Err}
 use Rattle.std.proofs.lemmas.List.Edits.{sets}
 use Rattle.limits.specs.declared.Refusal.{Refusal}
 use Rattle.limits.specs.declared.Refusal.TheVariants.{Shape}
@@ -9,8 +9,6 @@ use Rattle.interval.specs.declared.Bound.{Bound}
 use Rattle.lattice.specs.Value.{Value, reason_number}
 use Rattle.store.specs.declared.Store.{Store}
 use Rattle.numeric.specs.Reading.{Reading, given, refused, Status, completed, halted, argument_reading, slot_reading, status_reading}
-use Rattle.report.specs.declared.Written.{Written}
-use Rattle.report.specs.declared.Written.TheVariants.{Length, Refused}
 use Rattle.text.specs.Text.{decimal, bound_words, list_word, line}
 
 -- ---- the lines
@@ -89,6 +87,6 @@ abbrev pub on_buffer : List ℕ → Reading (List ℕ) → Lined
 on_buffer buffer r = cond (eqb (length buffer) 256) (put buffer r) (lined (refused (told Shape)) buffer)
 
 -- the code's answer
-abbrev pub written : Written → List ℕ → Lined
-written (Length n) b = lined (given n) b
-written (Refused e) b = lined (refused (told e)) b
+abbrev pub written : Result ℕ Refusal → List ℕ → Lined
+written (Ok n) b = lined (given n) b
+written (Err e) b = lined (refused (told e)) b

@@ -12,30 +12,19 @@ ghost use Rattle.report.specs.Line.{told_words, done_text, stop_text, argument_t
 use interval::Bound;
 use lattice::Abstract;
 use limits::{Refusal, Statistics};
-use numeric::{Bounded, Ended, Read};
+use numeric::Ended;
 use store::Store;
 
 // The bytes of a line's buffer. Every line fits.
 pub const LINE: usize = 256;
 
-// How long the line is.
-#[derive(Clone, Copy)]
-pub enum Written {
-    Length(usize),
-    Refused(Refusal),
-}
-
-// A head word, from the start of the line on.
+// A head word, at the start of the line.
 fn put_word(line: &mut [u8], word: &[u8]) -> usize
     requires { length word.now ≤ length line.old }
     ensures { Puts word.now 0 line.old result line.new }
 {
-    let mut at = 0;
-    while at < word.len() {
-        line[at] = word[at];
-        at += 1;
-    }
-    at
+    line[..word.len()].copy_from_slice(word);
+    word.len()
 }
 
 // A refusal's number, and the limit and the observed sum if it carries them.
@@ -51,12 +40,7 @@ fn put_told(line: &mut [u8], at: usize, refusal: Refusal) -> usize
             let apart = text::put_byte(line, limited, b' ');
             text::put_wide(line, apart, stop.high, stop.low)
         }
-        Refusal::Closed => numbered,
-        Refusal::Shape => numbered,
-        Refusal::Full => numbered,
-        Refusal::Missing => numbered,
-        Refusal::Descending => numbered,
-        Refusal::MissingSlot => numbered,
+        _ => numbered,
     }
 }
 
@@ -135,78 +119,75 @@ fn put_statistics(line: &mut [u8], counts: Statistics) -> usize
     text::put_byte(line, end, b'\n')
 }
 
-// The first line of a report: `done` or `stop`.
-pub fn status_line(store: Store, line: &mut [u8]) -> Written
-    ensures { written result line.new ≡ on_buffer line.old (status_line store) }
+// The first line of a report: `done` or `stop`. Answers how long it is.
+pub fn status_line(store: &Store, line: &mut [u8]) -> Result<usize, Refusal>
+    ensures { written result line.new ≡ on_buffer line.old (status_line store.now) }
 {
-    let counts = store.counts;
     if line.len() != LINE {
-        return Written::Refused(Refusal::Shape);
+        return Err(Refusal::Shape);
     }
-    match numeric::status(store) {
-        Ended::Refused(refusal) => Written::Refused(refusal),
-        Ended::Completed => Written::Length(put_done(
+    let status = numeric::status(store)?;
+    match status {
+        Ended::Completed => Ok(put_done(
             line,
-            counts.positions as u64,
-            counts.rules as u64,
+            store.counts.positions as u64,
+            store.counts.rules as u64,
         )),
-        Ended::Stopped(stop, _) => Written::Length(put_stop(line, Refusal::Limit(stop))),
+        Ended::Stopped(stop, _) => Ok(put_stop(line, Refusal::Limit(stop))),
     }
 }
 
 // The line `a` of an argument.
-pub fn argument_line(store: Store, arguments: &[u32], argument: u64, line: &mut [u8]) -> Written
-    ensures { written result line.new ≡ on_buffer line.old (argument_line store arguments.now argument) }
+pub fn argument_line(
+    store: &Store,
+    arguments: &[u32],
+    argument: u64,
+    line: &mut [u8],
+) -> Result<usize, Refusal>
+    ensures { written result line.new ≡ on_buffer line.old (argument_line store.now arguments.now argument) }
 {
     if line.len() != LINE {
-        return Written::Refused(Refusal::Shape);
+        return Err(Refusal::Shape);
     }
-    let read = numeric::argument(store, arguments, argument);
-    let outcome = read.outcome;
-    match outcome {
-        Read::Refused(refusal) => Written::Refused(refusal),
-        Read::Given => Written::Length(put_argument(line, argument, read.value)),
-    }
+    let value = numeric::argument(store, arguments, argument)?;
+    Ok(put_argument(line, argument, value))
 }
 
 // The line `d` of a slot before guards, or `g` after them.
 pub fn slot_line(
-    store: Store,
+    store: &Store,
     rules: &[u32],
     slots: &[u32],
     rule: u64,
     slot: u64,
     after: bool,
     line: &mut [u8],
-) -> Written
-    ensures { written result line.new ≡ on_buffer line.old (slot_line store rules.now slots.now rule slot after) }
+) -> Result<usize, Refusal>
+    ensures { written result line.new ≡ on_buffer line.old (slot_line store.now rules.now slots.now rule slot after) }
 {
     if line.len() != LINE {
-        return Written::Refused(Refusal::Shape);
+        return Err(Refusal::Shape);
     }
-    match numeric::slot(store, rules, slots, rule, slot, after) {
-        Bounded::Refused(refusal) => Written::Refused(refusal),
-        Bounded::Given(bound) => Written::Length(put_slot(line, rule, slot, after, bound)),
-    }
+    let bound = numeric::slot(store, rules, slots, rule, slot, after)?;
+    Ok(put_slot(line, rule, slot, after, bound))
 }
 
 // The line `s`.
-pub fn statistics_line(store: Store, line: &mut [u8]) -> Written
-    ensures { written result line.new ≡ on_buffer line.old (statistics_line store) }
+pub fn statistics_line(store: &Store, line: &mut [u8]) -> Result<usize, Refusal>
+    ensures { written result line.new ≡ on_buffer line.old (statistics_line store.now) }
 {
-    let budget = store.budget;
     if line.len() != LINE {
-        return Written::Refused(Refusal::Shape);
+        return Err(Refusal::Shape);
     }
-    Written::Length(put_statistics(line, budget.statistics))
+    Ok(put_statistics(line, store.budget.statistics))
 }
 
 // A refusal as the line of a job.
-pub fn refusal_line(refusal: Refusal, line: &mut [u8]) -> Written
+pub fn refusal_line(refusal: Refusal, line: &mut [u8]) -> Result<usize, Refusal>
     ensures { written result line.new ≡ on_buffer line.old (refusal_line refusal) }
 {
     if line.len() != LINE {
-        return Written::Refused(Refusal::Shape);
+        return Err(Refusal::Shape);
     }
-    Written::Length(put_refusal(line, refusal))
+    Ok(put_refusal(line, refusal))
 }

@@ -1,18 +1,17 @@
 -- What the answers of the two calls are, over plain variables: each way out of the tests, then each step behind them.
 use Prim.Native.Nat.{ℕ, ◌<◌, ◌≤◌}
 use native.Mathlib.Omega.{arith}
-use mathlib.Core.Path.{◌≡◌, refl, sym, ap, ◌∙◌}
-use mathlib.Core.Bool.{Bool, true, false}
+use mathlib.Core.Path.{◌≡◌, ◌∙◌}
+use mathlib.Core.Bool.{true, false}
 use mathlib.Core.List.{List}
-use borrow.Author.Tests.{leb-true, lt-ltb, le-ltb, le-leb, lt-leb, eq-eqb, ne_eqb}
+use borrow.Author.Tests.{leb-true, lt-ltb, le-ltb, le-leb, eq-eqb}
 use lib.Dec.{leb, ltb}
 use lib.IntN.{ℤ}
 use lib.Signed.{lt_z, le_z}
 use lib.ListN.{length}
 use Rattle.integers.proofs.Tests.{and_left, and_right}
 use Rattle.integers.proofs.OrderLaws.{lt_yes, lt_no, yes_le, no_le}
-use Rattle.limits.specs.declared.Refusal.{Refusal}
-use Rattle.limits.specs.declared.Refusal.TheVariants.{Closed, Shape, Full, Missing, Descending}
+use Rattle.limits.specs.declared.Refusal.TheVariants.{Missing, Descending}
 use Rattle.limits.specs.Refusal.{Told, told}
 use Rattle.limits.specs.Metered.{Run, going, stopped, Metered, ◌>>◌, mapped, through}
 use Rattle.limits.specs.Budget.{work}
@@ -25,7 +24,7 @@ use Rattle.store.specs.Calls.{unless, charged}
 use Rattle.store.proofs.CodeLaws.{charged_counts, charged_context}
 use Rattle.provenance.specs.Provenance.{Records, records, provenance, recordable, Room}
 use Rattle.provenance.proofs.CodeLaws.{provenance_thresholds}
-use Rattle.seeds.specs.Seed.{Rows, rows, sizes, spacious, Tables, tables, in_header, in_records, in_rows, seed_constant, seed_value_call, Ends, ends, seed_ends, IntervalTables, interval_tables, in_tables, in_ends, seed_interval_call}
+use Rattle.seeds.specs.Seed.{sizes, spacious, Tables, tables, in_header, in_records, in_rows, seed_constant, seed_value_call, seed_ends, IntervalTables, interval_tables, in_tables, in_ends, seed_interval_call}
 
 -- ---- room
 

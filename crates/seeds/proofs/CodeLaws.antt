@@ -1,7 +1,7 @@
 -- What the code's answers are, over plain variables: values, seeds, and the thresholds of an interval's ends.
-use Prim.Native.Nat.{ℕ, ◌+◌, ◌-◌, ◌*◌, ◌<◌, ◌≤◌}
+use Prim.Native.Nat.{ℕ, ◌+◌, ◌≤◌}
 use native.Mathlib.Omega.{arith}
-use mathlib.Core.Path.{◌≡◌, refl, sym, ap, ◌∙◌}
+use mathlib.Core.Path.{◌≡◌, refl, ap, ◌∙◌}
 use mathlib.Core.Bool.{Bool, true, false, cond}
 use mathlib.Core.List.{List}
 use mathlib.Core.Option.{some, none}
@@ -10,10 +10,14 @@ use lib.ListN.{length, take, length-take}
 use Rattle.limits.specs.declared.Stop.{Stop}
 use Rattle.limits.specs.declared.Budget.{Budget}
 use Rattle.limits.specs.declared.Refusal.TheVariants.{Limit}
-use Rattle.limits.specs.Refusal.{Told, told}
+use Rattle.limits.specs.Refusal.{Told, told, replied}
+use Rattle.limits.specs.declared.Refusal.{Refusal}
+use Rattle.limits.proofs.Answering.{replied_through}
 use Rattle.limits.specs.declared.Meter.{Meter}
-use Rattle.limits.specs.Metered.{Run, going, stopped, Metered, ◌>>◌, mapped, through}
-use Rattle.limits.specs.Meter.{meter_of, with_meter, holding}
+use Rattle.limits.specs.Metered.{Run, going, stopped, Metered, answered, mapped, through}
+use Rattle.std.proofs.Common.{Result, Ok, Err}
+use Rattle.lists.specs.Ids.{seen}
+use Rattle.limits.specs.Meter.{released as fewer, held_through, meter_of, with_meter, holding}
 use Rattle.limits.specs.Budget.{released, widened_once}
 use Rattle.limits.proofs.Monad.{bind_stop, bind_on, then_stop, then_on, through_on, through_stop}
 use Rattle.interval.specs.declared.Interval.TheVariants.{Bounded}
@@ -28,7 +32,7 @@ use Rattle.thresholds.proofs.Sorted.{Ending, Grows, around_grows}
 use Rattle.store.specs.declared.Store.{Store}
 use Rattle.store.specs.Store.{with_budget, with_thresholds}
 use Rattle.store.specs.Calls.{Marks, marks, entering}
-use Rattle.seeds.specs.Seed.{loses, dropped, joined, Rows, rows, paying, seed, constant_value, seed_constant, ends, seed_ends}
+use Rattle.seeds.specs.Seed.{loses, dropped, joined, Rows, rows, paying, seed, constant_value, seed_constant, marking, ends, seed_ends}
 
 -- ---- the live entries of a value
 
@@ -38,6 +42,32 @@ few_entries v {n} l e = go v.kept e
     go : (t : Bool) → n ≡ length (list_of (cond t (some (take v.len v.ids)) none)) → n ≤ 16
     go true e = omega (arith, l, e, length-take v.len v.ids)
     go false e = omega (arith, e)
+
+module _ (old v new : Value) (b : Budget) {m n : ℕ} (p : m ≡ entries_of old) (q : n ≡ entries_of v) {t : Bool} (l : t ≡ loses old.values new.values) {r : Budget} where
+  pub drop_lost : {c : Budget} → t ≡ true → c ≡ widened_once b → r ≡ released (m + n) c → r ≡ dropped old v new b
+  drop_lost e c d = rw (d, c, ← l, e, p, q)
+
+  pub drop_kept : t ≡ false → r ≡ released (m + n) b → r ≡ dropped old v new b
+  drop_kept e d = rw (d, ← l, e, p, q)
+
+-- ---- a step and then `Meter::holding`, whose value is seen
+
+abbrev over : {A B : Type 0} → (A → B) → Run Stop Meter A → Run Stop Meter B
+over f (going a m) = going (f a) m
+over f (stopped e m) = stopped e m
+
+seen_over : {A B : Type 0} (f : A → B) (r : Result A Stop) (m : Meter) → seen f r m ≡ over f (answered r m)
+seen_over f (Ok a) m = refl
+seen_over f (Err e) m = refl
+
+pub held_seen : {A B : Type 0} (f : A → B) (n : ℕ) (c : Metered Stop Meter B) (m : Meter) (x r : Result A Stop) (m₁ m₂ : Meter) → seen f x m₁ ≡ c m → answered r m₂ ≡ held_through n x m₁ →
+    seen f r m₂ ≡ holding n c m
+unfolding through mapped
+held_seen f n c m x r m₁ m₂ h k = seen_over f r m₂ ∙ ap (over f) k ∙ go x ∙ ap (mapped (λ t. t) (fewer n) (λ e. e)) h
+  where
+    go : (x : Result _ Stop) → over f (held_through n x m₁) ≡ mapped (λ t. t) (fewer n) (λ e. e) (seen f x m₁)
+    go (Ok a) = refl
+    go (Err e) = refl
 
 -- ---- a join in a budget
 
@@ -49,6 +79,17 @@ module _ (old v : Value) (b : Budget) (m : Meter) where
   pub join_done : {new : Value} → going new m ≡ holding (entries_of v) (join b.limits.width old v) (meter_of b) → going new (dropped old v new (with_meter m b)) ≡ joined old v b
   unfolding joined
   join_done h = bind_on _ b _ (through_on _ _ _ _ (holding (entries_of v) (join b.limits.width old v)) b h) refl
+
+-- ---- the value of a constant
+
+pub constant_made : (constants : List ℕ) (k : ℕ) (b : Budget) (r : Result Abstract Stop) (m : Meter) {x : Constant} → x ≡ constant_at constants k → seen value_of r m ≡ constant k x b.limits.width (meter_of b) →
+    seen value_of r (with_meter m b) ≡ constant_value constants k b
+unfolding constant_value through mapped
+constant_made constants k b r m e h = rw (← e, ← h) (go r)
+  where
+    go : (r : Result Abstract Stop) → seen value_of r (with_meter m b) ≡ mapped (λ n. with_meter n b) (λ n. with_meter n b) (λ e. e) (seen value_of r m)
+    go (Ok v) = refl
+    go (Err e) = refl
 
 -- ---- seeds
 
@@ -97,19 +138,13 @@ low_room low s t {t₁} {u} h = go (around low (entry s.budget s.counts.threshol
     go (stopped e n) g k = let z : ◌≡◌ {A = ℕ} 0 1 = cc in absurd (omega arith)
 
 module _ (a : ℕ) (low high : ℤ) (s : Store) (t : List ℕ) (h : List ℤ) {u : Store} {h₁ : List ℤ} where
-  pub ends_stopped : {x : Told} → stopped x (marks u h₁) ≡ (entering (around low) >> entering (around high)) (marks s h) → stopped x (ends u t h₁) ≡ seed_ends a low high (ends s t h)
+  pub ends_stopped : {x : Told} → stopped x (marks u h₁) ≡ (marking low high) (marks s h) → stopped x (ends u t h₁) ≡ seed_ends a low high (ends s t h)
   unfolding seed_ends
-  ends_stopped e = then_stop _ (ends s t h) _ (through_stop _ _ _ _ (entering (around low) >> entering (around high)) (ends s t h) e)
+  ends_stopped e = then_stop _ (ends s t h) _ (through_stop _ _ _ _ (marking low high) (ends s t h) e)
 
-  module _ (e : going tt (marks u h₁) ≡ (entering (around low) >> entering (around high)) (marks s h)) where
-    pub ends_refused : {x : Told} {w : Store} {t' : List ℕ} → stopped x (rows w t') ≡ seed a (numeric (Bounded low high)) (rows u t) → stopped x (ends w t' h₁) ≡ seed_ends a low high (ends s t h)
+  module _ (e : going tt (marks u h₁) ≡ (marking low high) (marks s h)) where
+    pub ends_went : (r : Result (Unit {0}) Refusal) (w : Store) (t' : List ℕ) {v : Value} → v ≡ numeric (Bounded low high) → replied r (rows w t') ≡ seed a v (rows u t) → replied r (ends w t' h₁) ≡ seed_ends a low high (ends s t h)
     unfolding seed_ends
-    ends_refused k =
-        then_on _ (ends s t h) _ (through_on _ _ _ _ (entering (around low) >> entering (around high)) (ends s t h) e)
-        (through_stop (λ e. rows e.header e.seeds) (λ e r. ends r.header r.seeds e.thresholds) (λ e r. ends r.header r.seeds e.thresholds) (λ e. e) _ (ends u t h₁) k)
-
-    pub ends_done : {w : Store} {t' : List ℕ} → going tt (rows w t') ≡ seed a (numeric (Bounded low high)) (rows u t) → going tt (ends w t' h₁) ≡ seed_ends a low high (ends s t h)
-    unfolding seed_ends
-    ends_done k =
-        then_on _ (ends s t h) _ (through_on _ _ _ _ (entering (around low) >> entering (around high)) (ends s t h) e)
-        (through_on (λ e. rows e.header e.seeds) (λ e r. ends r.header r.seeds e.thresholds) (λ e r. ends r.header r.seeds e.thresholds) (λ e. e) _ (ends u t h₁) k)
+    ends_went r w t' n k =
+        then_on _ (ends s t h) _ (through_on _ _ _ _ (marking low high) (ends s t h) e)
+        (replied_through (λ e. rows e.header e.seeds) (λ r e. ends r.header r.seeds e.thresholds) (seed a (numeric (Bounded low high))) (ends u t h₁) r _ (rw (← n) k))

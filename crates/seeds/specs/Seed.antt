@@ -16,7 +16,7 @@ use Rattle.lattice.specs.Lattice.{constant, numeric, join}
 use Rattle.rows.specs.Row.{row, entries_of, value_at, put}
 use Rattle.thresholds.specs.Thresholds.{around}
 use Rattle.store.specs.declared.Store.{Store}
-use Rattle.store.specs.Calls.{unless, open?, charged, marks, entering}
+use Rattle.store.specs.Calls.{unless, open?, charged, Marks, marks, entering}
 use Rattle.provenance.specs.Provenance.{Records, records, provenance, recordable}
 
 -- ---- a seed
@@ -105,10 +105,14 @@ pub record Ends : Type 0 where
 abbrev pub ends : Store → List ℕ → List ℤ → Ends
 ends s t h = record { header = s; seeds = t; thresholds = h }
 
+-- the thresholds of an interval's ends
+abbrev pub marking : ℤ → ℤ → Metered Told Marks (Unit {0})
+marking low high = entering (around low) >> entering (around high)
+
 -- an interval's thresholds, then its join
 unfoldable pub seed_ends : ℕ → ℤ → ℤ → Metered Told Ends (Unit {0})
 seed_ends a low high =
-    zoom (λ t. marks t.header t.thresholds) (λ m t. ends m.header t.seeds m.table) (entering (around low) >> entering (around high)) >>
+    zoom (λ t. marks t.header t.thresholds) (λ m t. ends m.header t.seeds m.table) (marking low high) >>
     zoom (λ t. rows t.header t.seeds) (λ r t. ends r.header r.seeds t.thresholds) (seed a (numeric (Bounded low high)))
 
 pub record IntervalTables : Type 0 where

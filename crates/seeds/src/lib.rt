@@ -3,13 +3,11 @@
 #![tactic(auto)]
 
 ghost use Rattle.std.specs.Prelude.{◌≡◌, ◌+◌, ◌≤◌, length};
-ghost use Rattle.limits.specs.Metered.{◌>>◌};
 ghost use Rattle.limits.specs.Refusal.{replied};
 ghost use Rattle.lists.specs.Ids.{seen};
 ghost use Rattle.lattice.specs.Value.{value_of};
-ghost use Rattle.thresholds.specs.Thresholds.{around};
-ghost use Rattle.store.specs.Calls.{marks, entering};
-ghost use Rattle.seeds.specs.Seed.{loses, joined, rows, seed, constant_value, seed_constant, sizes, spacious, tables, ends, seed_ends, interval_tables, seed_value_call, seed_interval_call};
+ghost use Rattle.store.specs.Calls.{marks};
+ghost use Rattle.seeds.specs.Seed.{loses, dropped, joined, rows, seed, constant_value, seed_constant, sizes, spacious, tables, marking, ends, seed_ends, interval_tables, seed_value_call, seed_interval_call};
 
 use interval::Interval;
 use lattice::Abstract;
@@ -23,6 +21,16 @@ pub fn is_lost(old: Abstract, new: Abstract) -> bool
     old.kept && !new.kept
 }
 
+// What is left after a join: the old seed and the value are dropped.
+fn drop_both(budget: &mut Budget, old: Abstract, value: Abstract, new: Abstract)
+    ensures { budget.new ≡ dropped (value_of old) (value_of value) (value_of new) budget.old }
+{
+    if is_lost(old, new) {
+        budget.count_widened();
+    }
+    budget.release_entries(rows::entries_of(old) + rows::entries_of(value));
+}
+
 // The old seed joined with a value, which is dropped on every way out.
 fn join_seed(old: Abstract, value: Abstract, budget: &mut Budget) -> Result<Abstract, Stop>
     ensures { seen value_of result budget.new ≡ joined (value_of old) (value_of value) budget.old }
@@ -33,10 +41,7 @@ fn join_seed(old: Abstract, value: Abstract, budget: &mut Budget) -> Result<Abst
     let joined = meter.holding(held, answer);
     budget.settle(meter);
     let new = joined?;
-    if is_lost(old, new) {
-        budget.count_widened();
-    }
-    budget.release_entries(rows::entries_of(old) + held);
+    drop_both(budget, old, value, new);
     Ok(new)
 }
 
@@ -127,7 +132,7 @@ pub fn seed_value(
 // The thresholds of an interval's ends.
 fn mark_ends(store: &mut Store, low: i32, high: i32, thresholds: &mut [i32]) -> Result<(), Refusal>
     requires { store.old.counts.thresholds + 6 ≤ length thresholds.old }
-    ensures { replied result (marks store.new thresholds.new) ≡ (entering (around low) >> entering (around high)) (marks store.old thresholds.old) }
+    ensures { replied result (marks store.new thresholds.new) ≡ marking low high (marks store.old thresholds.old) }
 {
     store.enter(low, thresholds)?;
     store.enter(high, thresholds)

@@ -1,18 +1,9 @@
 -- `numeric::key` meets its contract.
-use Rattle.numeric.proofs.ReadingLaws.{key_down, key_missing, key_given_lem}
+use mathlib.Core.Path.{◌≡◌, refl, sym, ap, ◌∙◌}
+use Rattle.numeric.specs.Reading.{key_reading}
+use Rattle.numeric.proofs.ReadingLaws.{turned_down, permitted, not_read, missing, stands}
 use Rattle.numeric.proofs.key.Goals as goal
 
-pub returns-then-counts-constant : goal.returns-then-counts-constant
-returns-then-counts-constant c =
-    let a = c.args in
-    key_missing a.store a.constants.now a.constant c.permits.ensures c.in-Given.is c.if-counts-constant.true
-
-pub returns-in-Refused : goal.returns-in-Refused
-returns-in-Refused c =
-    let a = c.args in
-    key_down a.store a.constants.now a.constant c.permits.ensures c.in-Refused.is
-
-pub returns-else-counts-constant : goal.returns-else-counts-constant
-returns-else-counts-constant c =
-    let a = c.args in
-    key_given_lem a.store a.constants.now a.constant c.permits.ensures c.in-Given.is c.if-counts-constant.false c.kind_of.ensures
+pub returns-in_err-permit : goal.returns-in_err-permit
+unfolding key_reading
+returns-in_err-permit c = not_read _ _ c.from_residual.ensures.1 (turned_down c.args.store.now _ _ c.permit.ensures c.in_err-permit.was)

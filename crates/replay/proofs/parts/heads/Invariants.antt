@@ -1,6 +1,0 @@
--- The loop of `replay::parts::heads` ends.
-use Rattle.std.proofs.Common.{◌-◌}
-use Rattle.replay.proofs.parts.heads.Given as goal
-
-abbrev pub decreases-loop-i : goal.decreases-loop-i
-decreases-loop-i l = l.end - l.i

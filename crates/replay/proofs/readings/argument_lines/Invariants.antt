@@ -1,6 +1,0 @@
--- The loop of `replay::readings::argument_lines` ends.
-use Rattle.std.proofs.Common.{◌-◌}
-use Rattle.replay.proofs.readings.argument_lines.Given as goal
-
-abbrev pub decreases-loop-i : goal.decreases-loop-i
-decreases-loop-i l = l.end - l.i

@@ -1,0 +1,317 @@
+//! The calls of a job, each read, carried out and answered by its line, if the text did not break off.
+use crate::parts;
+use crate::reading::{Malformed, Reader};
+use crate::tables::Tables;
+use crate::writing::Writer;
+use interval::Constant;
+use keys::Key;
+use store::{Phase, Store};
+
+// A job: its text, its answers, the store so far, and the tables.
+#[derive(Drop)]
+pub struct Session {
+    pub reader: Reader,
+    pub writer: Writer,
+    pub store: Store,
+    pub tables: Tables,
+}
+
+impl Session {
+    // A job begins with a fresh store; any other text, an empty one too, is none.
+    pub fn begin(&mut self) -> Result<(), Malformed> {
+        match self.reader.call()? {
+            Some(1) => self.fresh(),
+            _ => Err(Malformed {}),
+        }
+    }
+
+    fn fresh(&mut self) -> Result<(), Malformed> {
+        let (store, answer) = store::fresh(parts::limits(&mut self.reader)?);
+        self.store = store;
+        self.writer.done(answer);
+        Ok(())
+    }
+
+    // One call but the run, by its number. Any other number is no call.
+    pub fn step(&mut self, call: u64) -> Result<(), Malformed> {
+        match call {
+            1 => self.fresh()?,
+            2 => {
+                let context = self.reader.number(u64::from(u32::MAX))?;
+                self.writer.done(self.store.context(context as u32));
+            }
+            3 => {
+                let amount = self.reader.wide()?;
+                self.writer.done(self.store.work(amount));
+            }
+            4..=5 => self.predicate(call)?,
+            6..=7 => self.constant(call)?,
+            10..=15 => {
+                let value = parts::expression(&mut self.reader, call)?;
+                let answer =
+                    expressions::expression(&mut self.store, value, &mut self.tables.nodes);
+                self.writer.answered(answer);
+            }
+            20..=21 => self.seed(call)?,
+            22 => self.rule()?,
+            40 => {
+                let argument = self.reader.wide()?;
+                self.argument_line(argument);
+            }
+            41 => {
+                let argument = self.reader.wide()?;
+                self.contexts_line(argument);
+            }
+            42 => self.slot()?,
+            43 => {
+                let constant = self.reader.wide()?;
+                self.key_line(constant);
+            }
+            50 => self.counts_line(),
+            51 => self.stop_line(),
+            _ => return Err(Malformed {}),
+        }
+        Ok(())
+    }
+
+    // The calls 4 and 5.
+    fn predicate(&mut self, call: u64) -> Result<(), Malformed> {
+        let first = self.reader.wide()?;
+        let tables = &mut self.tables;
+        let answer = if call == 4 {
+            self.store
+                .predicate(first, &mut tables.predicates, &mut tables.seeds)
+        } else {
+            let position = self.reader.wide()?;
+            self.store.argument(first, position, &tables.predicates)
+        };
+        self.writer.answered(answer);
+        Ok(())
+    }
+
+    // The calls 6 and 7.
+    fn constant(&mut self, call: u64) -> Result<(), Malformed> {
+        let mut bytes = [0; parts::NAME];
+        let key = if call == 6 {
+            Key::Number(self.reader.signed()?)
+        } else {
+            let len = parts::name(&mut self.reader, &mut bytes)?;
+            Key::Name(&bytes[..len.min(parts::NAME)])
+        };
+        let tables = &mut self.tables;
+        let answer = constants::constant(
+            &mut self.store,
+            key,
+            &mut tables.names,
+            &mut tables.constants,
+            &mut tables.order,
+            &mut tables.thresholds,
+        );
+        self.writer.answered(answer);
+        Ok(())
+    }
+
+    // The calls 20 and 21.
+    fn seed(&mut self, call: u64) -> Result<(), Malformed> {
+        let argument = self.reader.wide()?;
+        let tables = &mut self.tables;
+        let answer = if call == 20 {
+            let value = self.reader.wide()?;
+            seeds::seed_value(
+                &mut self.store,
+                argument,
+                value,
+                &tables.constants,
+                &mut tables.seeds,
+                &mut tables.records,
+            )
+        } else {
+            let low = self.reader.signed()?;
+            let high = self.reader.signed()?;
+            seeds::seed_interval(
+                &mut self.store,
+                argument,
+                low,
+                high,
+                &mut tables.seeds,
+                &mut tables.records,
+                &mut tables.thresholds,
+            )
+        };
+        self.writer.done(answer);
+        Ok(())
+    }
+
+    fn rule(&mut self) -> Result<(), Malformed> {
+        let rule = parts::rule(&mut self.reader)?;
+        let tables = &mut self.tables;
+        let answer = producers::rule(
+            &mut self.store,
+            &rule,
+            &tables.nodes,
+            &mut tables.rules,
+            &mut tables.records,
+        );
+        self.writer.answered(answer);
+        Ok(())
+    }
+
+    // The run, with the lines of its report or its refusal.
+    pub fn run(&mut self) {
+        let tables = &mut self.tables;
+        let answer = engine::run(
+            &mut self.store,
+            &tables.nodes,
+            &tables.constants,
+            &tables.rules,
+            &tables.seeds,
+            &mut tables.thresholds,
+            &mut tables.arguments,
+            &mut tables.slots,
+        );
+        match answer {
+            Ok(()) => self.report(),
+            Err(refusal) => self.writer.refused(refusal),
+        }
+    }
+
+    // The lines of a run that has ended.
+    fn report(&mut self) {
+        let mut line = [0; report::LINE];
+        let written = report::status_line(&self.store, &mut line);
+        self.writer.line(written, &line);
+        if self.store.phase == Phase::Completed {
+            for argument in 0..self.store.counts.positions as u64 {
+                self.argument_line(argument);
+            }
+            for rule in 0..self.store.counts.rules as u64 {
+                self.rule_lines(rule);
+            }
+        }
+        let written = report::statistics_line(&self.store, &mut line);
+        self.writer.line(written, &line);
+    }
+
+    fn argument_line(&mut self, argument: u64) {
+        let mut line = [0; report::LINE];
+        let written =
+            report::argument_line(&self.store, &self.tables.arguments, argument, &mut line);
+        self.writer.line(written, &line);
+    }
+
+    fn rule_lines(&mut self, rule: u64) {
+        for slot in 0..rules::slots_at(&self.tables.rules, rule as usize) {
+            self.slot_line(rule, slot, false);
+            self.slot_line(rule, slot, true);
+        }
+    }
+
+    fn slot_line(&mut self, rule: u64, slot: u64, after: bool) {
+        let mut line = [0; report::LINE];
+        let tables = &self.tables;
+        let written = report::slot_line(
+            &self.store,
+            &tables.rules,
+            &tables.slots,
+            rule,
+            slot,
+            after,
+            &mut line,
+        );
+        self.writer.line(written, &line);
+    }
+
+    // Both lines of a slot, or one refusal.
+    fn slot(&mut self) -> Result<(), Malformed> {
+        let rule = self.reader.wide()?;
+        let slot = self.reader.wide()?;
+        let tables = &self.tables;
+        match numeric::slot(&self.store, &tables.rules, &tables.slots, rule, slot, false) {
+            Ok(_) => {
+                self.slot_line(rule, slot, false);
+                self.slot_line(rule, slot, true);
+            }
+            Err(refusal) => self.writer.refused(refusal),
+        }
+        Ok(())
+    }
+
+    fn contexts_line(&mut self, argument: u64) {
+        let records = &self.tables.records;
+        match numeric::context_count(&self.store, records, argument) {
+            Ok(count) => {
+                self.writer.put(b"p");
+                self.writer.number(argument);
+                for k in 0..count {
+                    if let Ok(context) = numeric::context(&self.store, records, argument, k) {
+                        self.writer.number(context);
+                    }
+                }
+                self.writer.put(b"\n");
+            }
+            Err(refusal) => self.writer.refused(refusal),
+        }
+    }
+
+    fn key_line(&mut self, constant: u64) {
+        match numeric::key(&self.store, &self.tables.constants, constant) {
+            Ok(key) => {
+                self.writer.put(b"k");
+                self.writer.number(constant);
+                match key {
+                    Constant::Number(value) => {
+                        self.writer.put(b" number ");
+                        self.writer.integer(value);
+                        self.writer.put(b"\n");
+                    }
+                    Constant::Name => self.name_words(constant),
+                    Constant::Large => self.writer.put(b" large\n"),
+                }
+            }
+            Err(refusal) => self.writer.refused(refusal),
+        }
+    }
+
+    fn name_words(&mut self, constant: u64) {
+        let tables = &self.tables;
+        let name = numeric::name(&self.store, &tables.names, &tables.constants, constant);
+        let name = name.unwrap_or(&[]);
+        self.writer.put(b" name");
+        self.writer.number(name.len() as u64);
+        for byte in name {
+            self.writer.number(u64::from(*byte));
+        }
+        self.writer.put(b"\n");
+    }
+
+    // All counts.
+    fn counts_line(&mut self) {
+        let counts = self.store.budget.statistics;
+        self.writer.put(b"n");
+        for count in [
+            counts.work,
+            counts.predicates,
+            counts.positions,
+            counts.links,
+            counts.entries,
+            counts.rounds,
+            counts.bytes,
+            counts.widened,
+        ] {
+            self.writer.number(count);
+        }
+        self.writer.put(b"\n");
+    }
+
+    // The context in force where a run stopped.
+    fn stop_line(&mut self) {
+        match self.store.phase {
+            Phase::Stopped(_, Some(context)) => {
+                self.writer.put(b"c");
+                self.writer.number(u64::from(context));
+                self.writer.put(b"\n");
+            }
+            _ => self.writer.put(b"c -\n"),
+        }
+    }
+}
