@@ -5,7 +5,7 @@ ghost use Rattle.std.specs.Prelude.{◌≡◌, ◌+◌, ◌≤◌, List, ℕ, le
 ghost use Rattle.limits.specs.Metered.{answered, going};
 ghost use Rattle.limits.specs.Refusal.{replied};
 ghost use Rattle.store.specs.Calls.{marks};
-ghost use Rattle.keys.specs.Key.{number, name, key_of};
+ghost use Rattle.keys.specs.Key.{key_of};
 ghost use Rattle.constants.specs.Constant.{bytes_of, retains, kind_of, payload_of, classify, cost, sizes, spacious, key_tables, add_key, settle, keep, abandon, retain, tables, constant_call};
 ghost use Rattle.search.specs.Seek.{absent};
 
@@ -196,39 +196,4 @@ pub fn constant(
     store.pay(Resource::Work, 1)?;
     classify(store, key, thresholds)?;
     retain(store, key, names, constants, order)
-}
-
-// The id of a number.
-pub fn constant_number(
-    store: &mut Store,
-    value: i32,
-    names: &mut [u8],
-    constants: &mut [u32],
-    order: &mut [u32],
-    thresholds: &mut [i32],
-) -> Result<usize, Refusal>
-    ensures { replied result (tables store.new names.new constants.new order.new thresholds.new) ≡ constant_call (number value) (tables store.old names.old constants.old order.old thresholds.old) }
-{
-    constant(
-        store,
-        Key::Number(value),
-        names,
-        constants,
-        order,
-        thresholds,
-    )
-}
-
-// The id of a name.
-pub fn constant_name(
-    store: &mut Store,
-    text: &[u8],
-    names: &mut [u8],
-    constants: &mut [u32],
-    order: &mut [u32],
-    thresholds: &mut [i32],
-) -> Result<usize, Refusal>
-    ensures { replied result (tables store.new names.new constants.new order.new thresholds.new) ≡ constant_call (name text.now) (tables store.old names.old constants.old order.old thresholds.old) }
-{
-    constant(store, Key::Name(text), names, constants, order, thresholds)
 }

@@ -1,127 +1,72 @@
 -- What the code's answers are, over plain variables: one law for each way out of a step.
-use Prim.Native.Nat.{ℕ, zero, suc, ◌+◌, ◌-◌, ◌*◌, ◌≤◌, ◌<◌, max}
+use Prim.Native.Nat.{ℕ, zero, suc, ◌+◌, ◌*◌, ◌≤◌, ◌<◌}
 use native.Mathlib.Omega.{arith}
+use native.Mathlib.Decide.{dec_lt}
 use native.Mathlib.Nat.{zero-add}
 use native.Mathlib.Numerals.{add-one}
-use mathlib.Core.Path.{◌≡◌, sym, ap, ◌∙◌}
+use mathlib.Core.Path.{◌≡◌, refl, sym, ap, ◌∙◌}
 use mathlib.Core.Bool.{Bool, true, false, cond}
 use mathlib.Core.List.{List}
-use borrow.Author.Tests.{lt-ltb, le-ltb, le-leb, lt-leb, eq-eqb, ne_eqb}
-use lib.Dec.{ltb, eqb}
+use borrow.Author.Tests.{lt-ltb, le-leb, eq-eqb, ne_eqb}
+use lib.Dec.{eqb}
 use lib.ListN.{length, get_or}
+use Rattle.std.proofs.Common.{Result, Ok, Err, Option, Some, None}
+use Rattle.std.specs.Option.{MatchOption}
 use Rattle.integers.proofs.Tests.{and_false}
-use Rattle.limits.specs.declared.Resource.TheVariants.{Work}
 use Rattle.limits.specs.declared.Stop.{Stop}
 use Rattle.limits.specs.declared.Budget.{Budget}
-use Rattle.limits.specs.declared.Charged.{Charged}
-use Rattle.limits.specs.declared.Charged.TheVariants.{Paid}
-use Rattle.limits.specs.declared.Charged.TheVariants as charged
-use Rattle.limits.specs.declared.Refusal.{Refusal}
-use Rattle.limits.specs.declared.Refusal.TheVariants.{Closed, Shape, Full, Limit, Missing}
-use Rattle.limits.specs.Charge.{units_of}
-use Rattle.limits.specs.Refusal.{Told, told}
-use Rattle.limits.specs.Records.{with_count, with_statistics}
-use Rattle.limits.specs.Metered.{Run, going, stopped, Metered, pure, after, ◌>>=◌, ◌>>◌, mapped, through}
 use Rattle.limits.specs.declared.Meter.{Meter}
-use Rattle.limits.specs.Meter.{meter_of, metered, units}
+use Rattle.limits.specs.declared.Refusal.TheVariants.{Limit, Missing}
+use Rattle.limits.specs.Refusal.{Told, told}
+use Rattle.limits.specs.Metered.{Run, going, stopped, answered, Metered, pure, after, ◌>>=◌, ◌>>◌, mapped, through}
+use Rattle.limits.specs.Meter.{meter_of, with_meter, metered, units}
 use Rattle.limits.specs.Meter as inner
 use Rattle.limits.specs.Budget.{work, links}
 use Rattle.limits.proofs.Monad.{bind_on, then_on, then_stop, through_on, through_stop, pure_is}
-use Rattle.limits.proofs.Units.{units_paid, units_stopped, units_more, units_nothing}
+use Rattle.limits.proofs.Units.{units_more, units_nothing}
 use Rattle.search.specs.Seek.{Place, found, absent}
-use Rattle.search.specs.declared.Sought.{Sought}
-use Rattle.search.specs.declared.Sought.TheVariants.{Found, Absent, Stopped}
-use Rattle.search.specs.Answers.{Seeks, sought}
-use Rattle.nodes.specs.declared.BinaryOp.{BinaryOp}
 use Rattle.nodes.specs.declared.Expression.{Expression}
-use Rattle.nodes.specs.declared.Expression.TheVariants.{Binary}
 use Rattle.nodes.specs.declared.Node.{Node}
-use Rattle.nodes.specs.Node.{row, node_of, same_node, node_at, nesting_at, put_node}
-use Rattle.store.specs.declared.Counts.{Counts}
+use Rattle.nodes.specs.Node.{row, node_of, same_node, node_at, put_node}
 use Rattle.store.specs.declared.Store.{Store}
-use Rattle.store.specs.declared.Done.{Done}
-use Rattle.store.specs.declared.Done.TheVariants.{Ok, Refused}
-use Rattle.store.specs.declared.Answer.{Answer}
-use Rattle.store.specs.declared.Answer.TheVariants.{Id}
-use Rattle.store.specs.declared.Answer.TheVariants as answer
 use Rattle.store.specs.Store.{admits, with_budget, with_expressions}
 use Rattle.store.specs.Calls.{unless, charged as billed}
-use Rattle.store.specs.Answers.{done}
 use Rattle.store.proofs.CodeLaws.{charged_counts}
-use Rattle.expressions.specs.Expression.{supported, child_nesting, deepest, valid, shared, first_node, seek_node, older, Tables, tables, paying, settle, share, expression_call}
-use Rattle.expressions.specs.Answers.{on_tables, Shares}
+use Rattle.expressions.specs.Expression.{supported, deepest, valid, shared, first_node, seek_node, older, Tables, tables, paying, settle, share, expression_call}
 
--- ---- nesting
+-- ---- the search: the place
 
-module _ (nodes : List ℕ) (count : ℕ) where
-  pub child_there : (id : ℕ) {n : ℕ} → id < count → n ≡ nesting_at nodes id → n ≡ child_nesting nodes count id
-  child_there id h e = rw (lt-ltb id count h) e
+-- most rows differ in this cell
+pub other_left : (nodes : List ℕ) (i : ℕ) (n : Node) → (get_or nodes (row * i + 2) 0 ≡ n.left → ⊥) → eqb (get_or nodes (row * i + 2) 0) n.left ≡ same_node (node_at nodes i) n
+unfolding node_at
+other_left nodes i n h =
+    let m = node_at nodes i in
+    rw (ne_eqb (get_or nodes (row * i + 2) 0) n.left h, and_false (eqb m.operator n.operator)) (sym (and_false (eqb m.kind n.kind)))
 
-  pub child_missing : (id : ℕ) → count ≤ id → 0 ≡ child_nesting nodes count id
-  child_missing id h = rw (le-ltb id count h)
+module _ (nodes : List ℕ) (e : Node) where
+  abbrev pub Same : ℕ → Type 0
+  Same i = same_node (node_at nodes i) e ≡ true
 
-  pub nesting_is : {v x : Expression} {n : ℕ} → v ≡ x → n ≡ deepest nodes count x → n ≡ deepest nodes count v
-  nesting_is p q = q ∙ sym (ap (deepest nodes count) p)
+  abbrev pub Other : ℕ → Type 0
+  Other i = same_node (node_at nodes i) e ≡ false
 
-  pub nesting_binary : {v : Expression} {op : BinaryOp} {l r a b n : ℕ} → v ≡ Binary op l r → a ≡ child_nesting nodes count l → b ≡ child_nesting nodes count r → n ≡ max a b →
-      n ≡ deepest nodes count v
-  nesting_binary p ea eb e = e ∙ rw (ea, eb, p)
+  none_from : (n at : ℕ) → ((k : ℕ) → at ≤ k → k < at + n → Other k) → first_node nodes e at n ≡ n
+  unfolding first_node
+  none_from zero at h = refl
+  none_from (suc n) at h = rw (h at (omega arith) (omega arith)) (ap suc (none_from n (at + 1) (λ k l m. h k (omega arith) (omega arith))))
 
--- ---- what an expression names
+  first_from : (n at i : ℕ) → at ≤ i → i < at + n → Same i → ((k : ℕ) → at ≤ k → k < i → Other k) → at + first_node nodes e at n ≡ i
+  unfolding first_node
+  first_from zero at i l m s h = absurd (omega arith)
+  first_from (suc n) at i l m s h = elim (dec_lt at i) [
+    | yes b ↦ let r = first_from n (at + 1) i (omega arith) (omega arith) s (λ k a c. h k (omega arith) c) in rw (h at (omega arith) b) (omega arith)
+    | no b ↦ let z : at ≡ i = omega arith in let t : Same at = rw z s in rw t (omega arith)
+  ]
 
-module _ (n : Counts) {v : Expression} where
-  pub valid_is : {x : Expression} {t : Bool} → v ≡ x → t ≡ valid n x → t ≡ valid n v
-  valid_is p q = q ∙ sym (ap (valid n) p)
-
-  module _ {op : BinaryOp} {l r : ℕ} (p : v ≡ Binary op l r) where
-    pub valid_right : l < n.expressions → ltb r n.expressions ≡ valid n v
-    valid_right h = rw (p, lt-ltb l n.expressions h)
-
-    pub valid_left : n.expressions ≤ l → false ≡ valid n v
-    valid_left h = rw (p, le-ltb l n.expressions h)
-
--- ---- the search: the place, and each way out of a turn
-
-other_left : (m n : Node) → (m.left ≡ n.left → ⊥) → same_node m n ≡ false
-other_left m n h = rw (ne_eqb m.left n.left h, and_false (eqb m.operator n.operator)) (and_false (eqb m.kind n.kind))
-
-module _ (nodes : List ℕ) (e : Node) (count : ℕ) where
-  -- the place is not before the row i
-  pub record Ahead (i : ℕ) : Type 0 where
-    pub is : first_node nodes e 0 count ≡ i + first_node nodes e i (count - i)
-
-  pub ahead_begins : Ahead 0
-  ahead_begins = let z : count - 0 ≡ count = omega arith in record { is = rw z (omega arith) }
-
-  module _ {i : ℕ} (s : Ahead i) where
-    pub ahead_none : count ≤ i → i ≡ first_node nodes e 0 count
-    unfolding first_node
-    ahead_none h =
-        let z : count - i ≡ 0 = omega arith in
-        let f : first_node nodes e i (count - i) ≡ 0 = rw z in
-        omega (arith, s.is)
-
-    module _ (h : i < count) where
-      first : {t : Bool} → t ≡ same_node (node_at nodes i) e → first_node nodes e i (count - i) ≡ cond t 0 (suc (first_node nodes e (i + 1) (count - (i + 1))))
-      unfolding first_node
-      first a = let z : count - i ≡ suc (count - (i + 1)) = omega arith in rw (z, ← a)
-
-      past : false ≡ same_node (node_at nodes i) e → Ahead (i + 1)
-      past a = let f = first a in record { is = omega (arith, s.is) }
-
-      -- most rows differ in this cell
-      pub ahead_left : (get_or nodes (row * i + 2) 0 ≡ e.left → ⊥) → Ahead (i + 1)
-      unfolding node_at
-      ahead_left n = past (sym (other_left (node_at nodes i) e n))
-
-      module _ {o : Node} {t : Bool} (c : o ≡ node_at nodes i) (a : t ≡ same_node o e) where
-        pub ahead_here : t ≡ true → i ≡ first_node nodes e 0 count
-        ahead_here y =
-            let f : first_node nodes e i (count - i) ≡ 0 = first (a ∙ ap (λ (m : Node). same_node m e) c) ∙ rw y in
-            omega (arith, s.is)
-
-        pub ahead_past : t ≡ false → Ahead (i + 1)
-        ahead_past y = past (sym y ∙ a ∙ ap (λ (m : Node). same_node m e) c)
+  pub first_is : (count : ℕ) (r : Option ℕ) → MatchOption r ((k : ℕ) → 0 ≤ k → k < count → Other k) (λ i. (0 ≤ i) × (i < count) × Same i × ((k : ℕ) → 0 ≤ k → k < i → Other k)) →
+      MatchOption r (count ≤ first_node nodes e 0 count) (λ i. (i < count) × (i ≡ first_node nodes e 0 count))
+  first_is count None h = let z = none_from count 0 (λ k l m. h k l (omega arith)) in omega arith
+  first_is count (Some i) h = let z = first_from count 0 i (omega arith) (omega (arith, h.1)) h.2 h.3 in (h.1, omega arith)
 
 -- ---- what it pays: a unit for each row that it looked at
 
@@ -151,137 +96,93 @@ module _ (nodes : List ℕ) (e : Node) where
   node_none (suc n) at s l = none_at _ at n (same_node (node_at nodes at) e) (node_none n (at + 1)) s l
 
 -- and the code's answers
-module _ (nodes : List ℕ) (e : Node) (count w mw : ℕ) {p : ℕ} (h : p ≡ first_node nodes e 0 count) {x : Charged} where
-  module _ (k : p < count) (b : x ≡ units_of Work w (p + 1) mw) where
-    look : (s : Meter) → (units (p + 1) >> pure (found p)) s ≡ seek_node nodes e 0 count s
-    look s = rw (h, add-one) (rw zero-add at (node_found nodes e count 0 s (rw h at k)))
+module _ (nodes : List ℕ) (e : Node) (count : ℕ) (m : Meter) where
+  module _ (p : ℕ) (k : p < count) (h : p ≡ first_node nodes e 0 count) where
+    look : (units (p + 1) >> pure (found p)) m ≡ seek_node nodes e 0 count m
+    look = rw (h, add-one) (rw zero-add at (node_found nodes e count 0 m (rw h at k)))
 
-    pub seek_stopped : {stop : Stop} {n : ℕ} → x ≡ charged.Stopped stop n → Seeks (seek_node nodes e 0 count) w mw (Stopped stop n)
-    seek_stopped q = record { at = λ en me. then_stop _ _ _ (units_stopped mw en me (p + 1) w b q) ∙ look _ }
+    pub found_unpaid : {x : Stop} {m' : Meter} → stopped x m' ≡ units (p + 1) m → stopped x m' ≡ seek_node nodes e 0 count m
+    found_unpaid q = then_stop _ _ _ q ∙ look
 
-    pub seek_found : {n : ℕ} → x ≡ Paid n → Seeks (seek_node nodes e 0 count) w mw (Found p n)
-    seek_found q = record { at = λ en me. then_on _ _ _ (units_paid mw en me (p + 1) w b q) (pure_is _ _) ∙ look _ }
+    pub found_paid : {m' : Meter} → going tt m' ≡ units (p + 1) m → going (found p) m' ≡ seek_node nodes e 0 count m
+    found_paid q = then_on _ _ _ q (pure_is _ _) ∙ look
 
-  module _ (k : count ≤ p) (b : x ≡ units_of Work w count mw) where
-    miss : (s : Meter) → (units count >> pure (absent count)) s ≡ seek_node nodes e 0 count s
-    miss s = rw zero-add at (node_none nodes e count 0 s (rw h at k))
+  module _ (k : count ≤ first_node nodes e 0 count) where
+    miss : (units count >> pure (absent count)) m ≡ seek_node nodes e 0 count m
+    miss = rw zero-add at (node_none nodes e count 0 m k)
 
-    pub miss_stopped : {stop : Stop} {n : ℕ} → x ≡ charged.Stopped stop n → Seeks (seek_node nodes e 0 count) w mw (Stopped stop n)
-    miss_stopped q = record { at = λ en me. then_stop _ _ _ (units_stopped mw en me count w b q) ∙ miss _ }
+    pub none_unpaid : {x : Stop} {m' : Meter} → stopped x m' ≡ units count m → stopped x m' ≡ seek_node nodes e 0 count m
+    none_unpaid q = then_stop _ _ _ q ∙ miss
 
-    pub seek_absent : {n : ℕ} → x ≡ Paid n → Seeks (seek_node nodes e 0 count) w mw (Absent count n)
-    seek_absent q = record { at = λ en me. then_on _ _ _ (units_paid mw en me count w b q) (pure_is _ _) ∙ miss _ }
+    pub none_paid : {m' : Meter} → going tt m' ≡ units count m → going (absent count) m' ≡ seek_node nodes e 0 count m
+    none_paid q = then_on _ _ _ q (pure_is _ _) ∙ miss
 
 -- an Unknown is not sought
-module _ (nodes : List ℕ) (count : ℕ) (v : Expression) (w mw : ℕ) {t : Bool} (h : t ≡ shared v) where
-  pub older_sought : {n : Node} {r : Sought} → t ≡ true → n ≡ node_of v → Seeks (seek_node nodes n 0 count) w mw r → Seeks (older nodes count v) w mw r
+module _ (nodes : List ℕ) (count : ℕ) (v : Expression) {t : Bool} (h : t ≡ shared v) (m : Meter) where
+  pub older_sought : {n : Node} {y : Run Stop Meter Place} → t ≡ true → n ≡ node_of v → y ≡ seek_node nodes n 0 count m → y ≡ older nodes count v m
   unfolding older
-  older_sought y e s = record { at = λ en me. rw (← h, y, ← e) (s.at en me) }
+  older_sought y e s = rw (← h, y, ← e) s
 
-  pub older_none : t ≡ false → Seeks (older nodes count v) w mw (Absent count w)
+  pub older_none : t ≡ false → going (absent count) m ≡ older nodes count v m
   unfolding older pure
-  older_none y = record { at = λ en me. rw (← h, y) }
-
--- ---- an answer of a charge, by its case, as what the monad gives
-
-module _ {x : Done} {y : Run Told Store (Unit {0})} (h : done x ≡ y) {s : Store} where
-  pub went : x ≡ Ok s → going tt s ≡ y
-  went e = sym (ap done e) ∙ h
-
-  pub broke : {r : Refusal} → x ≡ Refused r s → stopped (told r) s ≡ y
-  broke e = sym (ap done e) ∙ h
+  older_none y = rw (← h, y)
 
 -- ---- the ways of `share`
 
--- charges keep the count of expressions
-pub still_room : (m : Metered Stop Budget (Unit {0})) (s : Store) {b : Budget} {u v : Store} → u ≡ with_budget b s → going tt v ≡ billed m u → s.counts.expressions < 1024 →
-    v.counts.expressions < 1024
-still_room m s {u} l g h = rw (charged_counts m u g, l) h
+module _ (e : Expression) (s : Store) (nodes : List ℕ) (m : Meter) {r : Result Place Stop} (h : answered r m ≡ older nodes s.counts.expressions e (meter_of s.budget)) {b : Budget} (k : b ≡ with_meter m s.budget) where
+  pub share_stopped : {x : Stop} → r ≡ Err x → stopped (told (Limit x)) (tables (with_budget b s) nodes) ≡ share e (tables s nodes)
+  unfolding share ◌>>=◌ after through mapped
+  share_stopped p = rw (k, ← h, p)
 
-module _ (e : Expression) (s : Store) (nodes : List ℕ) {r : Sought}
-    (h : Seeks (older nodes s.counts.expressions e) s.budget.statistics.work s.budget.limits.work r) where
-  -- the budget after the search
-  abbrev searched : ℕ → Budget
-  searched w = with_statistics (with_count Work w s.budget.statistics) s.budget
-
-  ended : sought r s.budget.limits.work s.budget.statistics.entries s.budget.limits.entries ≡ older nodes s.counts.expressions e (meter_of s.budget)
-  ended = h.at s.budget.statistics.entries s.budget.limits.entries
-
-  module _ {w : ℕ} {b : Budget} {u : Store} (k : b ≡ searched w) (l : u ≡ with_budget b s) where
-    pub share_stopped : {stop : Stop} → r ≡ Stopped stop w → Shares e s nodes (answer.Refused (Limit stop) u) nodes
-    unfolding share ◌>>=◌ after through mapped
-    share_stopped p = record { is = rw (l, k, ← ended, p) }
-
-    pub share_found : {i : ℕ} → r ≡ Found i w → Shares e s nodes (Id i u) nodes
+  module _ {q : Place} (p : r ≡ Ok q) where
+    pub share_found : {i : ℕ} → q ≡ found i → going i (tables (with_budget b s) nodes) ≡ share e (tables s nodes)
     unfolding share settle pure ◌>>=◌ after through mapped
-    share_found p = record { is = rw (l, k, ← ended, p) }
+    share_found f = rw (k, ← h, p, f)
 
-    module _ {i : ℕ} (p : r ≡ Absent i w) where
-      sought_on : going (absent i) (tables u nodes) ≡ paying (metered (older nodes s.counts.expressions e)) (tables s nodes)
+    module _ {i : ℕ} (f : q ≡ absent i) where
+      sought_on : going (absent i) (tables (with_budget b s) nodes) ≡ paying (metered (older nodes s.counts.expressions e)) (tables s nodes)
       unfolding through mapped
-      sought_on = rw (l, k, ← ended, p)
+      sought_on = rw (k, ← h, p, f)
 
-      pub share_unpaid : {q : Refusal} {v : Store} → stopped (told q) v ≡ billed (links 1) u → Shares e s nodes (answer.Refused q v) nodes
+      pub share_unpaid : {x : Told} {v : Store} → stopped x v ≡ billed (links 1) (with_budget b s) → stopped x (tables v nodes) ≡ share e (tables s nodes)
       unfolding share settle
-      share_unpaid d = record { is = bind_on _ _ (settle e) sought_on (then_stop _ _ _ (through_stop _ _ _ _ (billed (links 1)) (tables u nodes) d)) }
+      share_unpaid d = bind_on _ _ (settle e) sought_on (then_stop _ _ _ (through_stop _ _ _ _ (billed (links 1)) (tables (with_budget b s) nodes) d))
 
-      pub share_new : {v t : Store} {d : ℕ} {n : Node} {nodes' : List ℕ} → going tt v ≡ billed (links 1) u → d ≡ deepest nodes s.counts.expressions e → n ≡ node_of e →
-          nodes' ≡ put_node nodes s.counts.expressions n (1 + d) → t ≡ with_expressions (v.counts.expressions + 1) v → Shares e s nodes (Id s.counts.expressions t) nodes'
-      unfolding share settle
-      share_new {v} g ed en z f =
-          let c : v.counts ≡ s.counts = charged_counts (links 1) u g ∙ rw l in
-          record { is = bind_on _ _ (settle e) sought_on (then_on _ _ _ (through_on _ _ _ _ (billed (links 1)) (tables u nodes) g) (rw (f, z, en, ed, c))) }
+      module _ {v : Store} (g : going tt v ≡ billed (links 1) (with_budget b s)) where
+        same_rows : v.counts ≡ s.counts
+        same_rows = charged_counts (links 1) (with_budget b s) g
+
+        pub still_room : s.counts.expressions < 1024 → v.counts.expressions < 1024
+        still_room h = rw same_rows h
+
+        pub share_new : {d : ℕ} {n : Node} {nodes' : List ℕ} → d ≡ deepest nodes s.counts.expressions e → n ≡ node_of e →
+            nodes' ≡ put_node nodes s.counts.expressions n (1 + d) → going s.counts.expressions (tables (with_expressions (v.counts.expressions + 1) v) nodes') ≡ share e (tables s nodes)
+        unfolding share settle
+        share_new ed en z =
+            bind_on _ _ (settle e) sought_on (then_on _ _ _ (through_on _ _ _ _ (billed (links 1)) (tables (with_budget b s) nodes) g) (rw (z, en, ed, same_rows)))
 
 -- ---- the call
 
-module _ (e : Expression) (s : Store) (nodes : List ℕ) where
-  pub expression_rows : (length nodes ≡ row * 1024 → ⊥) → stopped (told Shape) (tables s nodes) ≡ expression_call e (tables s nodes)
+module _ (e : Expression) (s : Store) (nodes : List ℕ) {t o : Bool} {d : ℕ} (n : length nodes ≡ row * 1024) (a : t ≡ supported e) (y : t ≡ true) (h : o ≡ admits s.phase) (q : o ≡ true)
+    (g : d ≡ deepest nodes s.counts.expressions e) (k : d < 64) (f : s.counts.expressions < 1024) where
+  -- what is left after the tests
+  tested : expression_call e (tables s nodes) ≡ (paying (work 1) >> unless (λ (t : Tables). valid t.header.counts e) Missing (share e)) (tables s nodes)
   unfolding expression_call
-  expression_rows n = rw (ne_eqb (length nodes) (row * 1024) n)
+  tested = rw (eq-eqb (length nodes) (row * 1024) n, ← a, y, ← h, q, ← g, le-leb (1 + d) 64 (omega arith), lt-ltb s.counts.expressions 1024 f)
 
-  module _ (n : length nodes ≡ row * 1024) {t : Bool} (a : t ≡ supported e) where
-    pub expression_unported : t ≡ false → stopped (told Shape) (tables s nodes) ≡ expression_call e (tables s nodes)
-    unfolding expression_call
-    expression_unported z = rw (eq-eqb (length nodes) (row * 1024) n, ← a, z)
+  pub expression_work : {r : Told} {u : Store} → stopped r u ≡ billed (work 1) s → stopped r (tables u nodes) ≡ expression_call e (tables s nodes)
+  expression_work p = rw tested (then_stop _ _ _ (through_stop _ _ _ _ (billed (work 1)) (tables s nodes) p))
 
-    module _ (y : t ≡ true) {o : Bool} (h : o ≡ admits s.phase) where
-      pub expression_closed : o ≡ false → stopped (told Closed) (tables s nodes) ≡ expression_call e (tables s nodes)
-      unfolding expression_call
-      expression_closed z = rw (eq-eqb (length nodes) (row * 1024) n, ← a, y, ← h, z)
+  module _ {u : Store} (p : going tt u ≡ billed (work 1) s) where
+    same_counts : u.counts ≡ s.counts
+    same_counts = charged_counts (work 1) s p
 
-      module _ (q : o ≡ true) {d : ℕ} (g : d ≡ deepest nodes s.counts.expressions e) where
-        pub expression_deep : 64 ≤ d → stopped (told Shape) (tables s nodes) ≡ expression_call e (tables s nodes)
-        unfolding expression_call
-        expression_deep z = rw (eq-eqb (length nodes) (row * 1024) n, ← a, y, ← h, q, ← g, lt-leb (1 + d) 64 (omega arith))
+    pub share_ready : (u.counts.expressions < 1024) × (deepest nodes u.counts.expressions e < 64) × (row * 1024 ≤ length nodes)
+    share_ready = rw same_counts (f, rw (← g) k, omega arith)
 
-        module _ (k : d < 64) where
-          pub expression_full : 1024 ≤ s.counts.expressions → stopped (told Full) (tables s nodes) ≡ expression_call e (tables s nodes)
-          unfolding expression_call
-          expression_full z =
-              rw (eq-eqb (length nodes) (row * 1024) n, ← a, y, ← h, q, ← g, le-leb (1 + d) 64 (omega arith), le-ltb s.counts.expressions 1024 z)
+    module _ {v : Bool} (w : v ≡ valid u.counts e) where
+      pub expression_missing : v ≡ false → stopped (told Missing) (tables u nodes) ≡ expression_call e (tables s nodes)
+      expression_missing z = rw tested (then_on _ _ _ (through_on _ _ _ _ (billed (work 1)) (tables s nodes) p) (rw (← w, z)))
 
-          module _ (f : s.counts.expressions < 1024) where
-            -- what is left after the tests
-            tested : expression_call e (tables s nodes) ≡ (paying (work 1) >> unless (λ (t : Tables). valid t.header.counts e) Missing (share e)) (tables s nodes)
-            unfolding expression_call
-            tested = rw (eq-eqb (length nodes) (row * 1024) n, ← a, y, ← h, q, ← g, le-leb (1 + d) 64 (omega arith), lt-ltb s.counts.expressions 1024 f)
-
-            pub expression_work : {r : Told} {u : Store} → stopped r u ≡ billed (work 1) s → stopped r (tables u nodes) ≡ expression_call e (tables s nodes)
-            expression_work p = rw tested (then_stop _ _ _ (through_stop _ _ _ _ (billed (work 1)) (tables s nodes) p))
-
-            module _ {u : Store} (p : going tt u ≡ billed (work 1) s) where
-              same_counts : u.counts ≡ s.counts
-              same_counts = charged_counts (work 1) s p
-
-              pub share_ready : (u.counts.expressions < 1024) × (deepest nodes u.counts.expressions e < 64) × (row * 1024 ≤ length nodes)
-              share_ready = rw same_counts (f, rw (← g) k, omega arith)
-
-              module _ {v : Bool} (w : v ≡ valid s.counts e) where
-                now_valid : v ≡ valid u.counts e
-                now_valid = w ∙ ap (λ (n : Counts). valid n e) (sym same_counts)
-
-                pub expression_missing : v ≡ false → stopped (told Missing) (tables u nodes) ≡ expression_call e (tables s nodes)
-                expression_missing z = rw tested (then_on _ _ _ (through_on _ _ _ _ (billed (work 1)) (tables s nodes) p) (rw (← now_valid, z)))
-
-                pub expression_shared : v ≡ true → {x : Answer} {nodes' : List ℕ} → Shares e u nodes x nodes' → on_tables x nodes' ≡ expression_call e (tables s nodes)
-                expression_shared z r = rw tested (then_on _ _ _ (through_on _ _ _ _ (billed (work 1)) (tables s nodes) p) (rw (← now_valid, z) r.is))
+      pub expression_shared : v ≡ true → {x : Run Told Tables ℕ} → x ≡ share e (tables u nodes) → x ≡ expression_call e (tables s nodes)
+      expression_shared z r = rw tested (then_on _ _ _ (through_on _ _ _ _ (billed (work 1)) (tables s nodes) p) (rw (← w, z) r))

@@ -1,48 +1,25 @@
 -- `expressions::expression` meets its contract.
-use Rattle.expressions.proofs.CodeLaws.{went, broke, share_ready, expression_rows, expression_unported, expression_closed, expression_deep, expression_full, expression_work, expression_missing, expression_shared}
+use Rattle.limits.proofs.Answering.{refuses}
+use Rattle.expressions.proofs.CodeLaws.{expression_work, share_ready, expression_missing, expression_shared}
 use Rattle.expressions.proofs.expression.Goals as goal
 
-pub returns-then-nodes : goal.returns-then-nodes
-returns-then-nodes c =
+pub returns-in_err-pay : goal.returns-in_err-pay
+returns-in_err-pay c =
     let a = c.args in
-    expression_rows a.value a.store a.nodes.now c.if-nodes.true
-
-pub returns-then-not-is_supported : goal.returns-then-not-is_supported
-returns-then-not-is_supported c =
-    let a = c.args in
-    expression_unported a.value a.store a.nodes.now c.if-nodes.false c.is_supported.ensures c.if-not-is_supported.true
-
-pub returns-then-not-admits : goal.returns-then-not-admits
-returns-then-not-admits c =
-    let a = c.args in
-    expression_closed a.value a.store a.nodes.now c.if-nodes.false c.is_supported.ensures c.if-not-is_supported.false c.admits.ensures c.if-not-admits.true
-
-pub returns-then-deepest-ge-NESTING : goal.returns-then-deepest-ge-NESTING
-returns-then-deepest-ge-NESTING c =
-    let a = c.args in
-    expression_deep a.value a.store a.nodes.now c.if-nodes.false c.is_supported.ensures c.if-not-is_supported.false c.admits.ensures c.if-not-admits.false c.deepest.ensures c.if-deepest-ge-NESTING.true
-
-pub returns-then-counts-ge-EXPRESSIONS : goal.returns-then-counts-ge-EXPRESSIONS
-returns-then-counts-ge-EXPRESSIONS c =
-    let a = c.args in
-    expression_full a.value a.store a.nodes.now c.if-nodes.false c.is_supported.ensures c.if-not-is_supported.false c.admits.ensures c.if-not-admits.false c.deepest.ensures c.if-deepest-ge-NESTING.false c.if-counts-ge-EXPRESSIONS.true
+    refuses _ _ c.from_residual.ensures.1
+    (expression_work a.value a.store.now a.nodes.now c.if-nodes.false c.is_supported.ensures c.if-not-is_supported.false c.admits.ensures c.if-not-admits.false c.deepest.ensures c.if-deepest-ge-NESTING.false c.if-count-ge-EXPRESSIONS.false c.in_err-pay.ensures)
 
 pub share-requires : goal.share-requires
 share-requires c =
     let a = c.args in
-    share_ready a.value a.store a.nodes.now c.if-nodes.false c.is_supported.ensures c.if-not-is_supported.false c.admits.ensures c.if-not-admits.false c.deepest.ensures c.if-deepest-ge-NESTING.false c.if-counts-ge-EXPRESSIONS.false (went c.charge.ensures c.in-Ok.is)
+    share_ready a.value a.store.now a.nodes.now c.if-nodes.false c.is_supported.ensures c.if-not-is_supported.false c.admits.ensures c.if-not-admits.false c.deepest.ensures c.if-deepest-ge-NESTING.false c.if-count-ge-EXPRESSIONS.false c.in_ok-pay.ensures
 
-pub returns-then-is_valid : goal.returns-then-is_valid
-returns-then-is_valid c =
+pub returns-then-not-is_valid : goal.returns-then-not-is_valid
+returns-then-not-is_valid c =
     let a = c.args in
-    expression_shared a.value a.store a.nodes.now c.if-nodes.false c.is_supported.ensures c.if-not-is_supported.false c.admits.ensures c.if-not-admits.false c.deepest.ensures c.if-deepest-ge-NESTING.false c.if-counts-ge-EXPRESSIONS.false (went c.charge.ensures c.in-Ok.is) c.is_valid.ensures c.if-is_valid.true c.share.ensures
+    expression_missing a.value a.store.now a.nodes.now c.if-nodes.false c.is_supported.ensures c.if-not-is_supported.false c.admits.ensures c.if-not-admits.false c.deepest.ensures c.if-deepest-ge-NESTING.false c.if-count-ge-EXPRESSIONS.false c.in_ok-pay.ensures c.is_valid.ensures c.if-not-is_valid.true
 
-pub returns-in-Refused : goal.returns-in-Refused
-returns-in-Refused c =
+pub returns : goal.returns
+returns c =
     let a = c.args in
-    expression_work a.value a.store a.nodes.now c.if-nodes.false c.is_supported.ensures c.if-not-is_supported.false c.admits.ensures c.if-not-admits.false c.deepest.ensures c.if-deepest-ge-NESTING.false c.if-counts-ge-EXPRESSIONS.false (broke c.charge.ensures c.in-Refused.is)
-
-pub returns-else-is_valid : goal.returns-else-is_valid
-returns-else-is_valid c =
-    let a = c.args in
-    expression_missing a.value a.store a.nodes.now c.if-nodes.false c.is_supported.ensures c.if-not-is_supported.false c.admits.ensures c.if-not-admits.false c.deepest.ensures c.if-deepest-ge-NESTING.false c.if-counts-ge-EXPRESSIONS.false (went c.charge.ensures c.in-Ok.is) c.is_valid.ensures c.if-is_valid.false
+    expression_shared a.value a.store.now a.nodes.now c.if-nodes.false c.is_supported.ensures c.if-not-is_supported.false c.admits.ensures c.if-not-admits.false c.deepest.ensures c.if-deepest-ge-NESTING.false c.if-count-ge-EXPRESSIONS.false c.in_ok-pay.ensures c.is_valid.ensures c.if-not-is_valid.false c.share.ensures

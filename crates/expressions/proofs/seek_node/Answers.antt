@@ -1,23 +1,16 @@
 -- `expressions::seek_node` meets its contract.
-use Rattle.expressions.proofs.CodeLaws.{seek_stopped, seek_found, miss_stopped, seek_absent}
+use Rattle.limits.proofs.Answering.{exits}
+use Rattle.expressions.proofs.CodeLaws.{found_unpaid, found_paid, none_unpaid, none_paid}
 use Rattle.expressions.proofs.seek_node.Goals as goal
 
-pub returns-in-Stopped : goal.returns-in-Stopped
-returns-in-Stopped c =
-    let a = c.args in
-    seek_stopped a.nodes.now a.node a.count a.work a.max_work c.first_node-place.ensures c.if-place-count.true c.charge_units.ensures c.in-Stopped.is
+pub returns-in_err-units-in-Some : goal.returns-in_err-units-in-Some
+returns-in_err-units-in-Some c = exits _ c.from_residual.ensures.1 (found_unpaid _ _ _ _ _ c.in-Some.ensures.0 c.in-Some.ensures.1 c.in_err-units-in-Some.ensures)
 
-pub returns-in-Paid : goal.returns-in-Paid
-returns-in-Paid c =
-    let a = c.args in
-    seek_found a.nodes.now a.node a.count a.work a.max_work c.first_node-place.ensures c.if-place-count.true c.charge_units.ensures c.in-Paid.is
+pub returns-in_err-units-in-None : goal.returns-in_err-units-in-None
+returns-in_err-units-in-None c = exits _ c.from_residual-in_err-units-in-None.ensures.1 (none_unpaid _ _ _ _ c.in-None.ensures c.in_err-units-in-None.ensures)
 
-pub returns-in-Stopped-charge_units : goal.returns-in-Stopped-charge_units
-returns-in-Stopped-charge_units c =
-    let a = c.args in
-    miss_stopped a.nodes.now a.node a.count a.work a.max_work c.first_node-place.ensures c.if-place-count.false c.charge_units-2.ensures c.in-Stopped-charge_units.is
+pub returns-in_ok-units-in-Some : goal.returns-in_ok-units-in-Some
+returns-in_ok-units-in-Some c = found_paid _ _ _ _ _ c.in-Some.ensures.0 c.in-Some.ensures.1 c.in_ok-units-in-Some.ensures
 
-pub returns-in-Paid-charge_units : goal.returns-in-Paid-charge_units
-returns-in-Paid-charge_units c =
-    let a = c.args in
-    seek_absent a.nodes.now a.node a.count a.work a.max_work c.first_node-place.ensures c.if-place-count.false c.charge_units-2.ensures c.in-Paid-charge_units.is
+pub returns-in_ok-units-in-None : goal.returns-in_ok-units-in-None
+returns-in_ok-units-in-None c = none_paid _ _ _ _ c.in-None.ensures c.in_ok-units-in-None.ensures

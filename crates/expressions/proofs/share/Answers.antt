@@ -1,32 +1,25 @@
 -- `expressions::share` meets its contract.
-use native.Mathlib.Omega.{arith}
-use Rattle.limits.specs.Budget.{links}
-use Rattle.expressions.proofs.CodeLaws.{still_room, went, broke, share_stopped, share_found, share_unpaid, share_new}
+use Rattle.std.proofs.Common.{arith}
+use Rattle.limits.proofs.Answering.{limits, refuses}
+use Rattle.expressions.proofs.CodeLaws.{share_stopped, share_found, share_unpaid, still_room, share_new}
 use Rattle.expressions.proofs.share.Goals as goal
 
-pub overflow_add-nesting : goal.overflow_add-nesting
-overflow_add-nesting c = omega (arith, c.deepest-nesting.ensures, c.requires.1)
-
-pub with_expression-requires : goal.with_expression-requires
-with_expression-requires c =
-    still_room (links 1) c.args.store c.with_budget-sought.ensures (went c.charge.ensures c.in-Ok.is) c.requires.0
-
-pub returns-in-Stopped : goal.returns-in-Stopped
-returns-in-Stopped c =
-    let a = c.args in
-    share_stopped a.value a.store a.nodes.now c.seek_older.ensures c.with-kept.ensures c.with_budget.ensures c.in-Stopped.is
-
-pub returns-in-Found : goal.returns-in-Found
-returns-in-Found c =
-    let a = c.args in
-    share_found a.value a.store a.nodes.now c.seek_older.ensures c.with-paid.ensures c.with_budget-in-Found.ensures c.in-Found.is
-
-pub returns-in-Refused : goal.returns-in-Refused
-returns-in-Refused c =
-    let a = c.args in
-    share_unpaid a.value a.store a.nodes.now c.seek_older.ensures c.with.ensures c.with_budget-sought.ensures c.in-Absent.is (broke c.charge.ensures c.in-Refused.is)
+pub returns-in_err-old : goal.returns-in_err-old
+returns-in_err-old c = limits _ _ c.from_residual.ensures.1 (share_stopped _ c.args.store.now _ _ (rw c.meter-meter.ensures at c.seek_older-sought.ensures) c.settle.ensures c.in_err-old.was)
 
 pub returns-in-Ok : goal.returns-in-Ok
-returns-in-Ok c =
-    let a = c.args in
-    share_new a.value a.store a.nodes.now c.seek_older.ensures c.with.ensures c.with_budget-sought.ensures c.in-Absent.is (went c.charge.ensures c.in-Ok.is) c.deepest-nesting.ensures c.node.ensures c.put_node.ensures c.with_expression.ensures
+returns-in-Ok c = share_found _ c.args.store.now _ _ (rw c.meter-meter.ensures at c.seek_older-sought.ensures) c.settle.ensures c.in_ok-old.was c.in-Ok.is
+
+pub returns-in_err-pay : goal.returns-in_err-pay
+returns-in_err-pay c =
+    refuses _ _ c.from_residual-in_err-pay.ensures.1
+    (share_unpaid _ c.args.store.now _ _ (rw c.meter-meter.ensures at c.seek_older-sought.ensures) c.settle.ensures c.in_ok-old.was c.in_default.is c.in_err-pay.ensures)
+
+pub overflow_add-store : goal.overflow_add-store
+overflow_add-store c =
+    let g = still_room c.args.value c.args.store.now c.args.nodes.now _ (rw c.meter-meter.ensures at c.seek_older-sought.ensures) c.settle.ensures c.in_ok-old.was c.in_default.is c.in_ok-pay.ensures c.requires.0 in
+    omega (arith, g)
+
+pub returns : goal.returns
+returns c =
+    share_new c.args.value c.args.store.now c.args.nodes.now _ (rw c.meter-meter.ensures at c.seek_older-sought.ensures) c.settle.ensures c.in_ok-old.was c.in_default.is c.in_ok-pay.ensures c.deepest-nesting.ensures c.from.ensures c.put_node.ensures
