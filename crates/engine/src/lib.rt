@@ -272,7 +272,7 @@ fn has_room(counts: &Counts) -> bool
 }
 
 // The run. It closes the store, completed or stopped.
-#[tactic(auto, unfolding(crate::specs::Run::run_call))]
+#[tactic(auto, unfolding(crate::specs::Call::run_call))]
 pub fn run(
     store: &mut Store,
     nodes: &[u64],
