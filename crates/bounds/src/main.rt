@@ -5,7 +5,7 @@
 use keys::Key;
 use limits::{Limits, Refusal};
 use nodes::{BinaryOp, Expression};
-use rules::{Binding, BindingItem, Guard, GuardItem, Head, Lengths, Relation, Rule};
+use rules::{Binding, Guard, Head, Lengths, Relation, Rule};
 use std::io::{Stdout, Write};
 use store::Store;
 
@@ -50,9 +50,7 @@ impl Design {
         let predicate = self
             .store
             .predicate(1, &mut self.predicates, &mut self.seeds)?;
-        let argument = self
-            .store
-            .argument(predicate as u64, 0, &self.predicates)?;
+        let argument = self.store.argument(predicate as u64, 0, &self.predicates)?;
         Ok(argument as u64)
     }
 
@@ -193,8 +191,8 @@ fn counting(argument: u64, slot: u64, bound: u64, next: u64) -> Rule {
     };
     Rule {
         slots: 1,
-        bindings: [BindingItem { binding }; 32],
-        guards: [GuardItem { guard }; 32],
+        bindings: [binding; 32],
+        guards: [guard; 32],
         heads: [head; 16],
         lengths: Lengths {
             bindings: 1,

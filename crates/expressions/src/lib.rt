@@ -74,7 +74,7 @@ fn has_node(nodes: &[u64], i: usize, node: Node) -> bool
     requires { row * i + 2 < length nodes.now }
     ensures { result ≡ same_node (node_at nodes.now i) node }
 {
-    nodes[nodes::ROW * i + 2] == node.left && nodes::node_at(nodes, i).same(node)
+    nodes[nodes::ROW * i + 2] == node.left && nodes::node_at(nodes, i) == node
 }
 
 // The first of the rows that has these cells. A `for`: `find` over the range takes 1.7 times as long.
@@ -123,7 +123,7 @@ fn seek_older(
     ensures { answered result meter.new ≡ older nodes.now count value meter.old }
 {
     if is_shared(value) {
-        seek_node(nodes, count, value.node(), meter)
+        seek_node(nodes, count, Node::from(value), meter)
     } else {
         Ok(Err(count))
     }
@@ -143,7 +143,7 @@ fn share(store: &mut Store, value: Expression, nodes: &mut [u64]) -> Result<usiz
     }
     store.pay(Resource::Links, 1)?;
     let nesting = 1 + deepest(nodes, id, value);
-    nodes::put_node(nodes, id, value.node(), nesting);
+    nodes::put_node(nodes, id, Node::from(value), nesting);
     store.counts.expressions += 1;
     Ok(id)
 }

@@ -1,6 +1,6 @@
 //! Expressions and rules of any words.
 use nodes::Expression;
-use rules::{Binding, BindingItem, Guard, GuardItem, Head, Lengths, Rule};
+use rules::{Binding, Guard, Head, Lengths, Rule};
 
 pub fn low(number: u64) -> u32 {
     (number % 4294967296) as u32
@@ -56,54 +56,46 @@ fn guard(kind: u64, a: u64, b: u64, c: u64) -> Guard {
 }
 
 // Four words for each binding, from the sixth word on.
-fn bindings(words: &[u64]) -> [BindingItem; 32] {
-    let first = BindingItem {
-        binding: binding(
-            word(words, 5),
-            word(words, 6),
-            word(words, 7),
-            word(words, 8),
-        ),
-    };
+fn bindings(words: &[u64]) -> [Binding; 32] {
+    let first = binding(
+        word(words, 5),
+        word(words, 6),
+        word(words, 7),
+        word(words, 8),
+    );
     let mut items = [first; 32];
     let mut i: usize = 0;
     while i < 32 {
         let at = 5 + 4 * i;
-        items[i] = BindingItem {
-            binding: binding(
-                word(words, at),
-                word(words, at + 1),
-                word(words, at + 2),
-                word(words, at + 3),
-            ),
-        };
+        items[i] = binding(
+            word(words, at),
+            word(words, at + 1),
+            word(words, at + 2),
+            word(words, at + 3),
+        );
         i += 1;
     }
     items
 }
 
 // Four words for each guard, behind the bindings.
-fn guards(words: &[u64]) -> [GuardItem; 32] {
-    let first = GuardItem {
-        guard: guard(
-            word(words, 133),
-            word(words, 134),
-            word(words, 135),
-            word(words, 136),
-        ),
-    };
+fn guards(words: &[u64]) -> [Guard; 32] {
+    let first = guard(
+        word(words, 133),
+        word(words, 134),
+        word(words, 135),
+        word(words, 136),
+    );
     let mut items = [first; 32];
     let mut i: usize = 0;
     while i < 32 {
         let at = 133 + 4 * i;
-        items[i] = GuardItem {
-            guard: guard(
-                word(words, at),
-                word(words, at + 1),
-                word(words, at + 2),
-                word(words, at + 3),
-            ),
-        };
+        items[i] = guard(
+            word(words, at),
+            word(words, at + 1),
+            word(words, at + 2),
+            word(words, at + 3),
+        );
         i += 1;
     }
     items

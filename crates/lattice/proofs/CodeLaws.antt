@@ -1,7 +1,7 @@
 -- What the code's answers are, over plain variables: one law for each way out of a function.
-use Prim.Native.Nat.{ℕ, zero, suc, ◌+◌, ◌≤◌}
+use Prim.Native.Nat.{ℕ, zero, suc, ◌≤◌}
 use native.Mathlib.Omega.{arith}
-use mathlib.Core.Path.{◌≡◌, refl, sym, ap, ◌∙◌}
+use mathlib.Core.Path.{◌≡◌, refl, sym, ◌∙◌}
 use mathlib.Core.Bool.{Bool, true, false, ◌&&◌}
 use mathlib.Core.List.{List, [], ◌∷◌}
 use mathlib.Core.Option.{Option, some, none}
@@ -23,7 +23,7 @@ use Rattle.lists.specs.Lists.{union, push, retain_all, collect, permits, same_id
 use Rattle.lattice.specs.declared.Widening.TheVariants.{SymbolSize, ValueWidth}
 use Rattle.lattice.specs.Value.{Value, value, Reason}
 use Rattle.lattice.specs.Constants.{constant_at}
-use Rattle.lattice.specs.Lattice.{retained, constant, copied_list, copied_as, copied, same_lists, same, first, join_lists, join, permitted, keep_one, sift, reduce, source, meet_lists, without, meet}
+use Rattle.lattice.specs.Lattice.{retained, constant, copied, same_lists, same, first, join_lists, join, permitted, keep_one, sift, reduce, source, meet_lists, without, meet}
 
 -- the first reason that there is, by std's word
 pub first_is : (x y : Reason) {r : Reason} → r ≡ option_or x y → r ≡ first x y

@@ -13,8 +13,8 @@ use Rattle.limits.specs.declared.Charged.{Charged}
 use Rattle.limits.specs.declared.Charged.TheVariants.{Paid, Stopped}
 use Rattle.limits.specs.declared.Resource.TheVariants.{Work, ValueEntries}
 use Rattle.limits.specs.declared.Meter.{Meter}
-use Rattle.limits.specs.Charge.{charge_of, stop_of}
-use Rattle.limits.specs.Metered.{Run, going, stopped, Metered, answered, pure, after, ◌>>=◌, ◌>>◌, fold_m, mapped, through}
+use Rattle.limits.specs.Charge.{charge_of}
+use Rattle.limits.specs.Metered.{Run, going, stopped, Metered, pure, after, ◌>>=◌, ◌>>◌, fold_m, mapped, through}
 use Rattle.limits.specs.Meter.{meter, work, retain, release, released, holding, charged, with_work, with_entries}
 use Rattle.interval.specs.declared.Bound.{Bound}
 use Rattle.interval.specs.declared.Constant.{Constant}

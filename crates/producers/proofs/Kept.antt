@@ -168,8 +168,8 @@ heads_ends s (h ∷ l) r =
 
 -- what the rule names exists
 record Named (arguments : ℕ) (s : Scope) (r : Rule) : Type 0 where
-  bindings : All (λ i. BindingIn arguments s i.binding) (bindings_of r)
-  guards : All (λ i. GuardIn s i.guard) (guards_of r)
+  bindings : All (BindingIn arguments s) (bindings_of r)
+  guards : All (GuardIn s) (guards_of r)
   heads : All (HeadIn arguments s) (heads_of r)
 
 rule_checked : (nodes : List ℕ) (r : Rule) (x : Records) →

@@ -170,8 +170,8 @@ pub record RuleIn (arguments : ℕ) (s : Scope) (r : Rule) : Type 0 where
   pub slots : r.slots ≤ 16
   pub short : Short r
   -- what it names exists
-  pub bindings : All (λ i. BindingIn arguments s i.binding) (bindings_of r)
-  pub guards : All (λ i. GuardIn s i.guard) (guards_of r)
+  pub bindings : All (BindingIn arguments s) (bindings_of r)
+  pub guards : All (GuardIn s) (guards_of r)
   pub heads : All (HeadIn arguments s) (heads_of r)
 
 all_as : {A : Type 0} {P Q : A → Type 0} → ((a : A) → P a → Q a) → (l : List A) → All P l → All Q l
@@ -195,8 +195,8 @@ rule_small {arguments} {s} {r} few stand h =
     let slots : s.slots ≤ 16 = omega (arith, h.own, h.slots) in
     record {
       slots = omega (arith, h.slots);
-      bindings = all_as (λ i p. binding_small arguments s few stand slots i.binding p) (bindings_of r) h.bindings;
-      guards = all_as (λ i p. guard_small arguments s few stand slots i.guard p) (guards_of r) h.guards;
+      bindings = all_as (binding_small arguments s few stand slots) (bindings_of r) h.bindings;
+      guards = all_as (guard_small arguments s few stand slots) (guards_of r) h.guards;
       heads = all_as (λ i p. (omega arith, omega (arith, scoped_there p.1))) (heads_of r) h.heads;
     }
 
@@ -217,8 +217,8 @@ module _ (s s' : Scope) (a a' : ℕ) (more : a ≤ a') (slots : s'.slots ≡ s.s
     own = slots ∙ h.own;
     slots = h.slots;
     short = h.short;
-    bindings = all_as (λ i p. binding_more i.binding p) (bindings_of r) h.bindings;
-    guards = all_as (λ i p. guard_more i.guard p) (guards_of r) h.guards;
+    bindings = all_as binding_more (bindings_of r) h.bindings;
+    guards = all_as guard_more (guards_of r) h.guards;
     heads = all_as (λ i p. (omega arith, grows i.value p.1)) (heads_of r) h.heads;
   }
 
@@ -250,6 +250,6 @@ finds_guard s (Membership slot low high) =
     finds_test (ltb slot s.slots) MissingSlot (λ h. absurd (omega arith)) (λ t. finds_as (finds_pair s low high) (λ p. (ltb-true slot s.slots t, p)))
 
 pub finds_body : (arguments : ℕ) (s : Scope) (r : Rule) →
-    Finds (All (λ i. BindingIn arguments s i.binding) (bindings_of r) × All (λ i. GuardIn s i.guard) (guards_of r)) (check_body arguments s r)
+    Finds (All (BindingIn arguments s) (bindings_of r) × All (GuardIn s) (guards_of r)) (check_body arguments s r)
 unfolding check_body
-finds_body arguments s r = finds_then (finds_each (λ i. finds_binding arguments s i.binding) (bindings_of r)) (finds_each (λ i. finds_guard s i.guard) (guards_of r))
+finds_body arguments s r = finds_then (finds_each (finds_binding arguments s) (bindings_of r)) (finds_each (finds_guard s) (guards_of r))

@@ -134,7 +134,7 @@ scope_of n s r = scope n s.counts.expressions r.slots
 
 -- bindings and guards: work is all that they charge
 unfoldable pub check_body : ℕ → Scope → Rule → Metered Told Meter (Unit {0})
-check_body arguments s r = each (λ i. check_binding arguments s i.binding) (bindings_of r) >> each (λ i. check_guard s i.guard) (guards_of r)
+check_body arguments s r = each (check_binding arguments s) (bindings_of r) >> each (check_guard s) (guards_of r)
 
 abbrev pub add_rule : Rule → Metered Told Tables ℕ
 add_rule r t =

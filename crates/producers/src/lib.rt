@@ -13,7 +13,7 @@ ghost use Rattle.producers.specs.Scopes.{scope_in};
 
 use limits::{Meter, Refusal, Resource};
 use nodes::Expression;
-use rules::{Binding, BindingItem, Guard, GuardItem, Head, Rule};
+use rules::{Binding, Guard, Head, Rule};
 use store::Store;
 
 // What a rule is checked against: the expressions and the arguments that stand, and the rule's slots.
@@ -130,13 +130,13 @@ impl Checker<'_> {
     }
 }
 
-impl Part for BindingItem {
+impl Part for Binding {
     ghost use Rattle.producers.specs.Producer.{check_binding};
 
-    ghost checks = { λ arguments s i. check_binding arguments s i.binding };
+    ghost checks = { check_binding };
 
     fn check(self, checker: Checker, meter: &mut Meter) -> Result<(), Refusal> {
-        match self.binding {
+        match self {
             Binding::Positive { slot, argument } => {
                 if checker.arguments as u64 <= argument {
                     return Err(Refusal::Missing);
@@ -156,13 +156,13 @@ impl Part for BindingItem {
     }
 }
 
-impl Part for GuardItem {
+impl Part for Guard {
     ghost use Rattle.producers.specs.Producer.{check_guard};
 
-    ghost checks = { λ _ s i. check_guard s i.guard };
+    ghost checks = { λ _. check_guard };
 
     fn check(self, checker: Checker, meter: &mut Meter) -> Result<(), Refusal> {
-        match self.guard {
+        match self {
             Guard::Compare { left, right, .. } => checker.check_pair(left, right, meter),
             Guard::Membership { slot, low, high } => {
                 if checker.slots <= slot {

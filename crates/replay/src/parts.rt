@@ -3,7 +3,7 @@
 use crate::reading::{Malformed, Reader};
 use limits::Limits;
 use nodes::Expression;
-use rules::{Binding, BindingItem, Guard, GuardItem, Head, Lengths, Rule};
+use rules::{Binding, Guard, Head, Lengths, Rule};
 
 // The most parts of one kind that can be read, and the most bytes of a name. A store takes fewer.
 const PARTS: u64 = 64;
@@ -15,8 +15,8 @@ trait Parse: Copy {
     fn parse(reader: &mut Reader) -> Result<Self, Malformed>;
 }
 
-impl Parse for BindingItem {
-    fn parse(reader: &mut Reader) -> Result<BindingItem, Malformed> {
+impl Parse for Binding {
+    fn parse(reader: &mut Reader) -> Result<Binding, Malformed> {
         let kind = reader.number(3)?;
         let slot = reader.wide()?;
         let binding = match kind {
@@ -38,12 +38,12 @@ impl Parse for BindingItem {
                 function: codes::function(reader.number(4)?),
             },
         };
-        Ok(BindingItem { binding })
+        Ok(binding)
     }
 }
 
-impl Parse for GuardItem {
-    fn parse(reader: &mut Reader) -> Result<GuardItem, Malformed> {
+impl Parse for Guard {
+    fn parse(reader: &mut Reader) -> Result<Guard, Malformed> {
         let guard = if reader.number(1)? == 0 {
             Guard::Compare {
                 left: reader.wide()?,
@@ -57,7 +57,7 @@ impl Parse for GuardItem {
                 high: reader.wide()?,
             }
         };
-        Ok(GuardItem { guard })
+        Ok(guard)
     }
 }
 
@@ -153,8 +153,8 @@ pub fn rule(reader: &mut Reader) -> Result<Rule, Malformed> {
         value: 0,
     };
     let slots = reader.wide()?;
-    let mut bindings = [BindingItem { binding }; 32];
-    let mut guards = [GuardItem { guard }; 32];
+    let mut bindings = [binding; 32];
+    let mut guards = [guard; 32];
     let mut heads = [head; 16];
     let lengths = Lengths {
         bindings: parts(reader, &mut bindings)?,

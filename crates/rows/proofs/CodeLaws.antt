@@ -1,5 +1,5 @@
 -- What the code of rows reads and writes is what the definitions say.
-use Prim.Native.Nat.{ℕ, zero, suc, min, ◌+◌, ◌-◌, ◌*◌, ◌≤◌, ◌<◌}
+use Prim.Native.Nat.{ℕ, min, ◌+◌, ◌-◌, ◌*◌, ◌≤◌, ◌<◌}
 use native.Mathlib.Omega.{arith}
 use native.Mathlib.Nat.{add-zero}
 use native.Mathlib.Numerals.{towards_suc}
@@ -10,16 +10,10 @@ use mathlib.Core.Option.{Option, some, none}
 use borrow.Author.Tests.{eq-eqb, ne_eqb}
 use mir.Val.{bool_byte}
 use lib.Dec.{eqb}
-use lib.IntN.{ℤ}
-use lib.ListN.{length, get_or, take, drop, set, length-take, length-drop, length-map, get_or-eq_default, get_or-map}
+use lib.ListN.{length, get_or, take, drop, set, length-take, length-drop, length-map, get_or-map}
 use lib.Seq.{sets, get_or-take, get_or-drop}
-use Rattle.integers.proofs.Stores.{sets_min, drop_min, take_min, Filled, filled_all, Writing, writing_more, writing_all}
-use Rattle.interval.specs.declared.Integrality.{Integrality}
-use Rattle.interval.specs.declared.Interval.{Interval}
-use Rattle.interval.specs.declared.Interval.TheVariants.{Bottom}
+use Rattle.integers.proofs.Stores.{sets_min, drop_min, Filled, filled_all, Writing, writing_more, writing_all}
 use Rattle.interval.specs.declared.Bound.{Bound}
-use Rattle.interval.specs.Interval.{ascending_of}
-use Rattle.cells.specs.Cells.{of_cell}
 use Rattle.std.proofs.Common.{Result, Ok, Err}
 use Rattle.limits.specs.declared.Stop.{Stop}
 use Rattle.limits.specs.declared.Meter.{Meter}
@@ -30,10 +24,9 @@ use Rattle.lists.specs.Ids.{seen}
 use Rattle.lattice.specs.Lattice.{copied}
 use Rattle.lattice.proofs.CodeLaws.{list_copied, entries_stopped}
 use Rattle.lattice.specs.Value.{Reason}
-use Rattle.std.specs.Prelude.{None}
 use Rattle.lattice.specs.declared.Abstract.{Abstract}
 use Rattle.lattice.specs.Value.{Value, value_of, reason_number}
-use Rattle.rows.specs.Row.{row, padded, bound_of, integrality_cell, case_cell, low_cell, high_cell, bound_cells, kept_cell, listed?, list_of, entries_of, encode, integrality_of, interval_of, reasons, reason_of, id_of, ids_of, decode, value_at, put}
+use Rattle.rows.specs.Row.{row, padded, bound_of, integrality_cell, case_cell, low_cell, high_cell, bound_cells, kept_cell, listed?, list_of, entries_of, encode, reason_of, id_of, ids_of, decode, value_at, put}
 use Rattle.rows.proofs.RowLaws.{length_padded, get_or_padded, row_cell}
 
 -- ---- the bound

@@ -17,8 +17,6 @@ use Rattle.rules.specs.declared.Binding.{Binding}
 use Rattle.rules.specs.declared.Binding.TheVariants.{Positive, Assign, Range, Aggregate}
 use Rattle.rules.specs.declared.Guard.{Guard}
 use Rattle.rules.specs.declared.Guard.TheVariants.{Compare, Membership}
-use Rattle.rules.specs.declared.BindingItem.{BindingItem}
-use Rattle.rules.specs.declared.GuardItem.{GuardItem}
 use Rattle.rules.specs.declared.Head.{Head}
 use Rattle.rules.specs.declared.Rule.{Rule}
 use Rattle.rules.specs.Rule.{function_number, relation_number, binding_cells, guard_cells, head_cells, mark_of, number_of, fixed_cells, bindings_of, guards_of, heads_of, flat, cell, row, put_rule}
@@ -29,9 +27,6 @@ use Rattle.rules.specs.Read.{function_of, relation_of, binding_of, guard_of, hea
 pub four_put : (d : List ℕ) (at : ℕ) (a b c e : ℕ) {l₁ l₂ l₃ r : List ℕ} → l₁ ≡ set d at (cell a) → l₂ ≡ set l₁ (at + 1) (cell b) → l₃ ≡ set l₂ (at + 2) (cell c) →
     r ≡ set l₃ (at + 3) (cell e) → r ≡ sets d at (map cell (a ∷ b ∷ c ∷ e ∷ []))
 four_put d at a b c e p₁ p₂ p₃ p = p ∙ rw (p₃, p₂, p₁) (simp towards_suc)
-
-pub two_put : (d : List ℕ) (at : ℕ) (a b : ℕ) {l r : List ℕ} → l ≡ set d at (cell a) → r ≡ set l (at + 1) (cell b) → r ≡ sets d at (map cell (a ∷ b ∷ []))
-two_put d at a b p₁ p = p ∙ rw p₁ (simp towards_suc)
 
 -- ---- a list of items, each of `width` cells: what is left to write, from the i-th on
 
@@ -48,7 +43,7 @@ module _ {A : Type 0} (f : A → List ℕ) (width : ℕ) where
   put_none cells at items = record { is = ap (λ (n : ℕ). sets cells n (map cell (flat f items))) (omega arith) }
 
   module _ {r cells : List ℕ} {at : ℕ} {items : List A} {i : ℕ} (p : Putting f width r cells at items i) where
-    put_more : (z : A) {m : List ℕ} → i < length items → length (f (get_or items i z)) ≡ width → m ≡ sets cells (at + width * i) (map cell (f (get_or items i z))) → Putting f width r m at items (i + 1)
+    pub put_more : (z : A) {m : List ℕ} → i < length items → length (f (get_or items i z)) ≡ width → m ≡ sets cells (at + width * i) (map cell (f (get_or items i z))) → Putting f width r m at items (i + 1)
     unfolding flat
     put_more z {m} h w e = record {
       is =
@@ -59,65 +54,24 @@ module _ {A : Type 0} (f : A → List ℕ) (width : ℕ) where
           ∙ rw (← e, length-map (f (get_or items i z)) cell, w, add-one) (ap (λ (n : ℕ). sets m n (map cell (flat f (drop (suc i) items)))) (omega arith));
     }
 
-    put_all : length items ≤ i → cells ≡ r
+    pub put_all : length items ≤ i → cells ≡ r
     unfolding flat
     put_all h = sym (p.is ∙ rw (drop_of_length-le items {i = i} h))
 
--- the i-th of the first `count` items is written
-module _ {A : Type 0} (f : A → List ℕ) (width : ℕ) (items : List A) (count : ℕ) (few : count ≤ length items) where
-  taken : length (take count items) ≡ count
-  taken = simp length-take (omega arith)
-
-  module _ {r cells : List ℕ} {at i : ℕ} (p : Putting f width r cells at (take count items) i) where
-    pub put_item : ((a : A) → length (f a) ≡ width) → (z : A) {m : List ℕ} → i < count → m ≡ sets cells (at + width * i) (map cell (f (get_or items i z))) →
-        Putting f width r m at (take count items) (i + 1)
-    put_item same z h e =
-        put_more f width p z (omega (arith, taken)) (same (get_or (take count items) i z))
-        (e ∙ ap (λ (a : A). sets cells (at + width * i) (map cell (f a))) (sym (get_or-take count items i z h)))
-
-    pub put_last : count ≤ i → cells ≡ r
-    put_last h = put_all f width p (omega (arith, taken))
-
 -- ---- how many cells each has
 
-pub binding_width : (i : BindingItem) → length (binding_cells i.binding) ≡ 4
-binding_width i = go i.binding
-  where
-    go : (b : Binding) → length (binding_cells b) ≡ 4
-    go (Positive s a) = refl
-    go (Assign s v) = refl
-    go (Range s l h) = refl
-    go (Aggregate s g) = refl
+pub binding_width : (b : Binding) → length (binding_cells b) ≡ 4
+binding_width (Positive s a) = refl
+binding_width (Assign s v) = refl
+binding_width (Range s l h) = refl
+binding_width (Aggregate s g) = refl
 
-pub guard_width : (i : GuardItem) → length (guard_cells i.guard) ≡ 4
-guard_width i = go i.guard
-  where
-    go : (g : Guard) → length (guard_cells g) ≡ 4
-    go (Compare l x r) = refl
-    go (Membership s l h) = refl
+pub guard_width : (g : Guard) → length (guard_cells g) ≡ 4
+guard_width (Compare l x r) = refl
+guard_width (Membership s l h) = refl
 
 pub head_width : (h : Head) → length (head_cells h) ≡ 2
 head_width h = refl
-
-pub head_put : (d : List ℕ) (at : ℕ) (h : Head) {l r : List ℕ} → l ≡ set d at (cell h.argument) → r ≡ set l (at + 1) (cell h.value) → r ≡ sets d at (map cell (head_cells h))
-head_put d at h p q = two_put d at h.argument h.value p q
-
--- ---- a binding and a guard, by their case
-
-module _ (d : List ℕ) (at : ℕ) {r : List ℕ} where
-  pub binding_put : {b c : Binding} → b ≡ c → r ≡ sets d at (map cell (binding_cells c)) → r ≡ sets d at (map cell (binding_cells b))
-  binding_put e h = rw e h
-
-  pub aggregate_put : {b : Binding} {slot n : ℕ} {f : AggregateFunction} → b ≡ Aggregate slot f → n ≡ function_number f → r ≡ sets d at (map cell (3 ∷ slot ∷ n ∷ 0 ∷ [])) →
-      r ≡ sets d at (map cell (binding_cells b))
-  aggregate_put e q h = rw e (h ∙ rw q)
-
-  pub compare_put : {g : Guard} {left n right : ℕ} {x : Relation} → g ≡ Compare left x right → n ≡ relation_number x → r ≡ sets d at (map cell (0 ∷ left ∷ n ∷ right ∷ [])) →
-      r ≡ sets d at (map cell (guard_cells g))
-  compare_put e q h = rw e (h ∙ rw q)
-
-  pub membership_put : {g : Guard} {slot low high : ℕ} → g ≡ Membership slot low high → r ≡ sets d at (map cell (1 ∷ slot ∷ low ∷ high ∷ [])) → r ≡ sets d at (map cell (guard_cells g))
-  membership_put e h = rw e h
 
 -- ---- the six cells before the bindings
 
@@ -129,34 +83,10 @@ fixed_put d at r c e f p q s = s ∙ rw (q, p, e, f) (simp towards_suc)
 -- ---- a whole row
 
 pub rule_put : (d : List ℕ) (id : ℕ) (r : Rule) (c : Context) {l₁ l₂ l₃ l : List ℕ} → l₁ ≡ sets d (row * id) (map cell (fixed_cells r c)) →
-    l₂ ≡ sets l₁ (row * id + 6) (map cell (flat (λ i. binding_cells i.binding) (bindings_of r))) →
-    l₃ ≡ sets l₂ (row * id + 134) (map cell (flat (λ i. guard_cells i.guard) (guards_of r))) → l ≡ sets l₃ (row * id + 262) (map cell (flat head_cells (heads_of r))) → l ≡ put_rule d id r c
+    l₂ ≡ sets l₁ (row * id + 6) (map cell (flat binding_cells (bindings_of r))) →
+    l₃ ≡ sets l₂ (row * id + 134) (map cell (flat guard_cells (guards_of r))) → l ≡ sets l₃ (row * id + 262) (map cell (flat head_cells (heads_of r))) → l ≡ put_rule d id r c
 unfolding put_rule
 rule_put d id r c p q s t = t ∙ rw (s, q, p)
-
--- ---- and back: numbers that tell a case
-
-pub no_function : (n : ℕ) → (n ≡ 0 → ⊥) → (n ≡ 1 → ⊥) → (n ≡ 2 → ⊥) → (n ≡ 3 → ⊥) → Max ≡ function_of n
-no_function n a b c d = sym (get_or-eq_default (Count ∷ Sum ∷ SumPlus ∷ Min ∷ []) Max {n = n} (omega arith))
-
-pub no_relation : (n : ℕ) → (n ≡ 0 → ⊥) → (n ≡ 1 → ⊥) → (n ≡ 2 → ⊥) → (n ≡ 3 → ⊥) → (n ≡ 4 → ⊥) → Neq ≡ relation_of n
-no_relation n a b c d e = sym (get_or-eq_default (Lt ∷ Le ∷ Gt ∷ Ge ∷ Eq ∷ []) Neq {n = n} (omega arith))
-
-pub as_aggregate : (k a b c : ℕ) {f : AggregateFunction} → k ≡ 3 → f ≡ function_of b → Aggregate a f ≡ binding_of k a b c
-as_aggregate k a b c e d = rw (e, d)
-
--- kind 0 and one that does not exist
-pub as_positive : (k a b c : ℕ) → (k ≡ 1 → ⊥) → (k ≡ 2 → ⊥) → (k ≡ 3 → ⊥) → Positive a b ≡ binding_of k a b c
-as_positive zero a b c x y z = refl
-as_positive (suc zero) a b c x y z = absurd (x refl)
-as_positive (suc (suc zero)) a b c x y z = absurd (y refl)
-as_positive (suc (suc (suc zero))) a b c x y z = absurd (z refl)
-as_positive (suc (suc (suc (suc k)))) a b c x y z = refl
-
-pub as_compare : (k a b c : ℕ) {x : Relation} → (k ≡ 1 → ⊥) → x ≡ relation_of b → Compare a x c ≡ guard_of k a b c
-as_compare zero a b c n d = rw d
-as_compare (suc zero) a b c n d = absurd (n refl)
-as_compare (suc (suc k)) a b c n d = rw d
 
 -- ---- a cell of a row, which begins at the table's end where it would begin beyond
 
@@ -215,6 +145,6 @@ module _ (cells : List ℕ) where
           let c = item_reached (row * id) (4 * j) at b 134 in
           e ∙ rw (p, q, r, s, item_first (row * id) (4 * j) at b 134 start f, c 1 start f, c 2 start f, c 3 start f)
 
-      pub head_read : {k l : ℕ} → b ≡ min (2 * j) (length cells) → k ≡ get_or cells (at + 262 + b) 0 → l ≡ get_or cells (at + 262 + b + 1) 0 → head_of k l ≡ head_at cells id j
+      pub head_read : {k l : ℕ} → b ≡ min (2 * j) (length cells) → k ≡ get_or cells (at + 262 + b) 0 → l ≡ get_or cells (at + 262 + b + 1) 0 → {a v : ℕ} → a ≡ k → v ≡ l → head_of a v ≡ head_at cells id j
       unfolding head_at
-      head_read f p q = rw (p, q, item_first (row * id) (2 * j) at b 262 start f, item_reached (row * id) (2 * j) at b 262 1 start f)
+      head_read f p q ea ev = rw (ea, ev, p, q, item_first (row * id) (2 * j) at b 262 start f, item_reached (row * id) (2 * j) at b 262 1 start f)

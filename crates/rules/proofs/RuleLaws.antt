@@ -19,8 +19,6 @@ use Rattle.rules.specs.declared.Binding.{Binding}
 use Rattle.rules.specs.declared.Binding.TheVariants.{Positive, Assign, Range, Aggregate}
 use Rattle.rules.specs.declared.Guard.{Guard}
 use Rattle.rules.specs.declared.Guard.TheVariants.{Compare, Membership}
-use Rattle.rules.specs.declared.BindingItem.{BindingItem}
-use Rattle.rules.specs.declared.GuardItem.{GuardItem}
 use Rattle.rules.specs.declared.Head.{Head}
 use Rattle.rules.specs.declared.Rule.{Rule}
 use Rattle.rules.specs.Rule.{function_number, relation_number, binding_cells, guard_cells, head_cells, mark_of, number_of, fixed_cells, bindings_of, guards_of, heads_of, flat, cell, row, put_rule}
@@ -56,8 +54,8 @@ SmallContext (Some c) = c < 2 ^ 32
 
 pub record Small (r : Rule) : Type 0 where
   pub slots : r.slots < 2 ^ 32
-  pub bindings : All (λ i. SmallBinding i.binding) (bindings_of r)
-  pub guards : All (λ i. SmallGuard i.guard) (guards_of r)
+  pub bindings : All SmallBinding (bindings_of r)
+  pub guards : All SmallGuard (guards_of r)
   pub heads : All SmallHead (heads_of r)
 
 -- ---- one item and its cells
@@ -202,19 +200,19 @@ module _ (cells : List ℕ) (id : ℕ) (r : Rule) (c : Context) (short : Short r
   fixed = map cell (fixed_cells r c)
 
   abbrev bindings : List ℕ
-  bindings = map cell (flat (λ i. binding_cells i.binding) (bindings_of r))
+  bindings = map cell (flat binding_cells (bindings_of r))
 
   abbrev guards : List ℕ
-  guards = map cell (flat (λ i. guard_cells i.guard) (guards_of r))
+  guards = map cell (flat guard_cells (guards_of r))
 
   abbrev heads : List ℕ
   heads = map cell (flat head_cells (heads_of r))
 
   bindings_long : length bindings ≡ 4 * length (bindings_of r)
-  bindings_long = items_length (λ i. binding_cells i.binding) 4 binding_width (bindings_of r)
+  bindings_long = items_length binding_cells 4 binding_width (bindings_of r)
 
   guards_long : length guards ≡ 4 * length (guards_of r)
-  guards_long = items_length (λ i. guard_cells i.guard) 4 guard_width (guards_of r)
+  guards_long = items_length guard_cells 4 guard_width (guards_of r)
 
   heads_long : length heads ≡ 2 * length (heads_of r)
   heads_long = items_length head_cells 2 head_width (heads_of r)
@@ -258,10 +256,10 @@ module _ (cells : List ℕ) (id : ℕ) (r : Rule) (c : Context) (short : Short r
     head_count_back = rw (fixed_cell 5 (omega arith)) (omega (arith, short.heads))
 
     -- the j-th of each; z is what a list is asked for beyond its end
-    pub binding_reads : (z : BindingItem) (j : ℕ) → j < length (bindings_of r) → binding_at (put_rule cells id r c) id j ≡ (get_or (bindings_of r) j z).binding
+    pub binding_reads : (z : Binding) (j : ℕ) → j < length (bindings_of r) → binding_at (put_rule cells id r c) id j ≡ get_or (bindings_of r) j z
     unfolding binding_at put_rule
     binding_reads z j h =
-        let f : BindingItem → List ℕ = λ i. binding_cells i.binding in
+        let f : Binding → List ℕ = binding_cells in
         let t = put_rule cells id r c in
         let part = in_bindings_lem cells fixed bindings guards heads (row * id) (omega arith) few_bindings few_guards few_heads room in
         rw (
@@ -270,12 +268,12 @@ module _ (cells : List ℕ) (id : ℕ) (r : Rule) (c : Context) (short : Short r
           part_cell f 4 binding_width (bindings_of r) t (row * id + 6) part z j h 2 (omega arith),
           part_cell f 4 binding_width (bindings_of r) t (row * id + 6) part z j h 3 (omega arith),
         )
-        (binding_back (get_or (bindings_of r) j z).binding (all_at (λ i. SmallBinding i.binding) (bindings_of r) j z small.bindings h))
+        (binding_back (get_or (bindings_of r) j z) (all_at SmallBinding (bindings_of r) j z small.bindings h))
 
-    pub guard_reads : (z : GuardItem) (j : ℕ) → j < length (guards_of r) → guard_at (put_rule cells id r c) id j ≡ (get_or (guards_of r) j z).guard
+    pub guard_reads : (z : Guard) (j : ℕ) → j < length (guards_of r) → guard_at (put_rule cells id r c) id j ≡ get_or (guards_of r) j z
     unfolding guard_at put_rule
     guard_reads z j h =
-        let f : GuardItem → List ℕ = λ i. guard_cells i.guard in
+        let f : Guard → List ℕ = guard_cells in
         let t = put_rule cells id r c in
         let part = in_guards_lem cells fixed bindings guards heads (row * id) (omega arith) few_bindings few_guards few_heads room in
         rw (
@@ -284,7 +282,7 @@ module _ (cells : List ℕ) (id : ℕ) (r : Rule) (c : Context) (short : Short r
           part_cell f 4 guard_width (guards_of r) t (row * id + 134) part z j h 2 (omega arith),
           part_cell f 4 guard_width (guards_of r) t (row * id + 134) part z j h 3 (omega arith),
         )
-        (guard_back (get_or (guards_of r) j z).guard (all_at (λ i. SmallGuard i.guard) (guards_of r) j z small.guards h))
+        (guard_back (get_or (guards_of r) j z) (all_at SmallGuard (guards_of r) j z small.guards h))
 
     pub head_reads : (z : Head) (j : ℕ) → j < length (heads_of r) → head_at (put_rule cells id r c) id j ≡ get_or (heads_of r) j z
     unfolding head_at put_rule
@@ -361,12 +359,12 @@ pub record Row (r : Rule) (c : Context) (cells : List ℕ) (id : ℕ) : Type 0 w
   pub binding_count_lem : binding_count cells id ≡ r.lengths.bindings
   pub guard_count_lem : guard_count cells id ≡ r.lengths.guards
   pub head_count_lem : head_count cells id ≡ r.lengths.heads
-  pub bindings : (z : BindingItem) (j : ℕ) → j < length (bindings_of r) → binding_at cells id j ≡ (get_or (bindings_of r) j z).binding
-  pub guards : (z : GuardItem) (j : ℕ) → j < length (guards_of r) → guard_at cells id j ≡ (get_or (guards_of r) j z).guard
+  pub bindings : (z : Binding) (j : ℕ) → j < length (bindings_of r) → binding_at cells id j ≡ get_or (bindings_of r) j z
+  pub guards : (z : Guard) (j : ℕ) → j < length (guards_of r) → guard_at cells id j ≡ get_or (guards_of r) j z
   pub heads : (z : Head) (j : ℕ) → j < length (heads_of r) → head_at cells id j ≡ get_or (heads_of r) j z
   -- and as lists, where the arrays are as long as the lengths say
-  pub all_bindings : r.lengths.bindings ≤ length r.bindings → bindings_at cells id ≡ map (λ i. i.binding) (bindings_of r)
-  pub all_guards : r.lengths.guards ≤ length r.guards → guards_at cells id ≡ map (λ i. i.guard) (guards_of r)
+  pub all_bindings : r.lengths.bindings ≤ length r.bindings → bindings_at cells id ≡ bindings_of r
+  pub all_guards : r.lengths.guards ≤ length r.guards → guards_at cells id ≡ guards_of r
   pub all_heads : r.lengths.heads ≤ length r.heads → heads_at cells id ≡ heads_of r
 
 -- ---- how many there are to read: as many as the lengths say, if the arrays are long enough
@@ -381,14 +379,14 @@ pub heads_there : (r : Rule) → r.lengths.heads ≤ length r.heads → length (
 heads_there r h = simp length-take (omega arith)
 
 -- one after another, they are the list
-listed : {A B : Type 0} (f : ℕ → B) (g : A → B) (l : List A) {n m : ℕ} → n ≡ m → length l ≡ m → ((z : A) (j : ℕ) → j < length l → f j ≡ g (get_or l j z)) → from f 0 n ≡ map g l
-listed f g l e k h = ap (from f 0) (e ∙ sym k) ∙ from_list f g l 0 (λ z i b. ap f (omega arith) ∙ h z i b)
+listed : {A : Type 0} (f : ℕ → A) (l : List A) {n m : ℕ} → n ≡ m → length l ≡ m → ((z : A) (j : ℕ) → j < length l → f j ≡ get_or l j z) → from f 0 n ≡ l
+listed f l e k h = ap (from f 0) (e ∙ sym k) ∙ from_list f (λ x. x) l 0 (λ z i b. ap f (omega arith) ∙ h z i b) ∙ map-id l
 
 -- the numbers and the elements of a row make its lists
 row_of : {r : Rule} {c : Context} {cells : List ℕ} {id : ℕ} → slots_at cells id ≡ r.slots → context_at cells id ≡ c →
     binding_count cells id ≡ r.lengths.bindings → guard_count cells id ≡ r.lengths.guards → head_count cells id ≡ r.lengths.heads →
-    ((z : BindingItem) (j : ℕ) → j < length (bindings_of r) → binding_at cells id j ≡ (get_or (bindings_of r) j z).binding) →
-    ((z : GuardItem) (j : ℕ) → j < length (guards_of r) → guard_at cells id j ≡ (get_or (guards_of r) j z).guard) →
+    ((z : Binding) (j : ℕ) → j < length (bindings_of r) → binding_at cells id j ≡ get_or (bindings_of r) j z) →
+    ((z : Guard) (j : ℕ) → j < length (guards_of r) → guard_at cells id j ≡ get_or (guards_of r) j z) →
     ((z : Head) (j : ℕ) → j < length (heads_of r) → head_at cells id j ≡ get_or (heads_of r) j z) → Row r c cells id
 row_of {r} {c} {cells} {id} s x nb ng nh b g h = record {
   slots = s;
@@ -399,9 +397,9 @@ row_of {r} {c} {cells} {id} s x nb ng nh b g h = record {
   bindings = b;
   guards = g;
   heads = h;
-  all_bindings = λ k. listed (binding_at cells id) (λ (i : BindingItem). i.binding) (bindings_of r) nb (bindings_there r k) b;
-  all_guards = λ k. listed (guard_at cells id) (λ (i : GuardItem). i.guard) (guards_of r) ng (guards_there r k) g;
-  all_heads = λ k. listed (head_at cells id) (λ (i : Head). i) (heads_of r) nh (heads_there r k) h ∙ map-id (heads_of r);
+  all_bindings = λ k. listed (binding_at cells id) (bindings_of r) nb (bindings_there r k) b;
+  all_guards = λ k. listed (guard_at cells id) (guards_of r) ng (guards_there r k) g;
+  all_heads = λ k. listed (head_at cells id) (heads_of r) nh (heads_there r k) h;
 }
 
 module _ (cells : List ℕ) (id : ℕ) (r : Rule) (c : Context) where

@@ -11,8 +11,6 @@ use Rattle.rules.specs.declared.Binding.{Binding}
 use Rattle.rules.specs.declared.Binding.TheVariants.{Positive, Assign, Range, Aggregate}
 use Rattle.rules.specs.declared.Guard.{Guard}
 use Rattle.rules.specs.declared.Guard.TheVariants.{Compare, Membership}
-use Rattle.rules.specs.declared.BindingItem.{BindingItem}
-use Rattle.rules.specs.declared.GuardItem.{GuardItem}
 use Rattle.rules.specs.declared.Head.{Head}
 use Rattle.rules.specs.declared.Rule.{Rule}
 
@@ -34,10 +32,10 @@ relation_number Neq = 5
 
 -- ---- what a rule has: the first of each array, as many as its lengths say
 
-abbrev pub bindings_of : Rule → List BindingItem
+abbrev pub bindings_of : Rule → List Binding
 bindings_of r = take r.lengths.bindings r.bindings
 
-abbrev pub guards_of : Rule → List GuardItem
+abbrev pub guards_of : Rule → List Guard
 guards_of r = take r.lengths.guards r.guards
 
 abbrev pub heads_of : Rule → List Head
@@ -90,8 +88,8 @@ unfoldable pub put_rule : List ℕ → ℕ → Rule → Context → List ℕ
 put_rule cells id r c =
     sets
     (sets
-    (sets (sets cells (row * id) (map cell (fixed_cells r c))) (row * id + 6) (map cell (flat (λ i. binding_cells i.binding) (bindings_of r))))
+    (sets (sets cells (row * id) (map cell (fixed_cells r c))) (row * id + 6) (map cell (flat binding_cells (bindings_of r))))
     (row * id + 134)
-    (map cell (flat (λ i. guard_cells i.guard) (guards_of r))))
+    (map cell (flat guard_cells (guards_of r))))
     (row * id + 262)
     (map cell (flat head_cells (heads_of r)))

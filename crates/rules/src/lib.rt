@@ -1,13 +1,14 @@
 //! Rules (numeric.rs) and their rows in a lent table. Cells beyond the table read as 0; any contents read as a rule.
 #![tactic(auto)]
 
-ghost use Rattle.std.specs.Prelude.{◌≡◌, [], ◌∷◌, map, min, ◌+◌, ◌*◌, ◌≤◌, ◌<◌, set, take};
+ghost use Rattle.std.specs.Prelude.{◌≡◌, ℕ, List, [], ◌∷◌, map, min, length, refl, ◌+◌, ◌*◌, ◌≤◌, ◌<◌, set};
+ghost use Rattle.rules.specs.declared.Binding.TheVariants.{Positive, Assign, Range, Aggregate};
+ghost use Rattle.rules.specs.declared.Guard.TheVariants.{Compare, Membership};
 ghost use Rattle.std.proofs.lemmas.List.Edits.{sets};
 ghost use Rattle.rules.specs.Rule.{function_number, relation_number, binding_cells, guard_cells, head_cells, mark_of, number_of, fixed_cells, flat, cell, row, put_rule};
 ghost use Rattle.rules.specs.Read.{function_of, relation_of, binding_of, guard_of, head_of, context_of, slots_at, context_at, binding_count, guard_count, head_count, binding_at, guard_at, head_at};
 
-
-#[derive(Clone, Copy)]
+#[derive(Clone, Copy, Debug, PartialEq, Eq)]
 pub enum AggregateFunction {
     Count,
     Sum,
@@ -16,7 +17,7 @@ pub enum AggregateFunction {
     Max,
 }
 
-#[derive(Clone, Copy)]
+#[derive(Clone, Copy, Debug, PartialEq, Eq)]
 pub enum Relation {
     Lt,
     Le,
@@ -27,7 +28,7 @@ pub enum Relation {
 }
 
 // Ids and slots are as the caller gives them: any 64-bit number.
-#[derive(Clone, Copy)]
+#[derive(Clone, Copy, Debug, PartialEq, Eq)]
 pub enum Binding {
     Positive {
         slot: u64,
@@ -48,7 +49,7 @@ pub enum Binding {
     },
 }
 
-#[derive(Clone, Copy)]
+#[derive(Clone, Copy, Debug, PartialEq, Eq)]
 pub enum Guard {
     Compare {
         left: u64,
@@ -62,25 +63,14 @@ pub enum Guard {
     },
 }
 
-#[derive(Clone, Copy)]
+#[derive(Clone, Copy, Debug, PartialEq, Eq)]
 pub struct Head {
     pub argument: u64,
     pub value: u64,
 }
 
-// An array holds structs.
-#[derive(Clone, Copy)]
-pub struct BindingItem {
-    pub binding: Binding,
-}
-
-#[derive(Clone, Copy)]
-pub struct GuardItem {
-    pub guard: Guard,
-}
-
 // How many bindings, guards, heads and integer queries a rule has.
-#[derive(Clone, Copy)]
+#[derive(Clone, Copy, Debug, PartialEq, Eq)]
 pub struct Lengths {
     pub bindings: u64,
     pub guards: u64,
@@ -91,8 +81,8 @@ pub struct Lengths {
 #[derive(Clone, Copy)]
 pub struct Rule {
     pub slots: u64,
-    pub bindings: [BindingItem; 32],
-    pub guards: [GuardItem; 32],
+    pub bindings: [Binding; 32],
+    pub guards: [Guard; 32],
     pub heads: [Head; 16],
     pub lengths: Lengths,
 }
@@ -100,11 +90,12 @@ pub struct Rule {
 // The cells of a row: slots, context, three lengths, 32 bindings and 32 guards of four cells, 16 heads of two.
 pub const ROW: usize = 294;
 
-impl AggregateFunction {
-    pub fn number(self) -> u64
-        ensures { result ≡ function_number self }
-    {
-        match self {
+// The numbers that the job format has.
+impl From<AggregateFunction> for u64 {
+    ghost from_gives = { λ f n. n ≡ function_number f };
+
+    fn from(function: AggregateFunction) -> u64 {
+        match function {
             AggregateFunction::Count => 0,
             AggregateFunction::Sum => 1,
             AggregateFunction::SumPlus => 2,
@@ -114,11 +105,11 @@ impl AggregateFunction {
     }
 }
 
-impl Relation {
-    pub fn number(self) -> u64
-        ensures { result ≡ relation_number self }
-    {
-        match self {
+impl From<Relation> for u64 {
+    ghost from_gives = { λ r n. n ≡ relation_number r };
+
+    fn from(relation: Relation) -> u64 {
+        match relation {
             Relation::Lt => 0,
             Relation::Le => 1,
             Relation::Gt => 2,
@@ -127,6 +118,21 @@ impl Relation {
             Relation::Neq => 5,
         }
     }
+}
+
+// What a row has several of, each of them in as many cells.
+trait Item: Copy {
+    const WIDTH: usize;
+
+    ghost WIDTH: { ℕ };
+
+    ghost item_cells: { Self → List ℕ };
+
+    fn put(self, cells: &mut [u32], at: usize)
+        requires { at ≤ 75264 }
+        ensures { cells.new ≡ sets cells.old at (map cell (item_cells self)) };
+
+    ghost wide: { (x : Self) → length (item_cells x) ≡ WIDTH };
 }
 
 // One cell: 32 bits of a number.
@@ -148,70 +154,70 @@ fn put_four(cells: &mut [u32], at: usize, a: u64, b: u64, c: u64, d: u64)
     put_number(cells, at + 3, d);
 }
 
-fn put_binding(cells: &mut [u32], at: usize, binding: Binding)
-    requires { at ≤ 75264 }
-    ensures { cells.new ≡ sets cells.old at (map cell (binding_cells binding)) }
-{
-    match binding {
-        Binding::Positive { slot, argument } => put_four(cells, at, 0, slot, argument, 0),
-        Binding::Assign { slot, value } => put_four(cells, at, 1, slot, value, 0),
-        Binding::Range { slot, low, high } => put_four(cells, at, 2, slot, low, high),
-        Binding::Aggregate { slot, function } => {
-            put_four(cells, at, 3, slot, function.number(), 0)
+impl Item for Binding {
+    const WIDTH: usize = 4;
+
+    ghost WIDTH = { 4 };
+
+    ghost item_cells = { binding_cells };
+
+    fn put(self, cells: &mut [u32], at: usize) {
+        match self {
+            Binding::Positive { slot, argument } => put_four(cells, at, 0, slot, argument, 0),
+            Binding::Assign { slot, value } => put_four(cells, at, 1, slot, value, 0),
+            Binding::Range { slot, low, high } => put_four(cells, at, 2, slot, low, high),
+            Binding::Aggregate { slot, function } => {
+                put_four(cells, at, 3, slot, u64::from(function), 0)
+            }
         }
     }
+
+    ghost wide = { elim [ Positive s a ↦ refl | Assign s v ↦ refl | Range s l h ↦ refl | Aggregate s f ↦ refl ] };
 }
 
-fn put_guard(cells: &mut [u32], at: usize, guard: Guard)
-    requires { at ≤ 75264 }
-    ensures { cells.new ≡ sets cells.old at (map cell (guard_cells guard)) }
-{
-    match guard {
-        Guard::Compare {
-            left,
-            relation,
-            right,
-        } => put_four(cells, at, 0, left, relation.number(), right),
-        Guard::Membership { slot, low, high } => put_four(cells, at, 1, slot, low, high),
+impl Item for Guard {
+    const WIDTH: usize = 4;
+
+    ghost WIDTH = { 4 };
+
+    ghost item_cells = { guard_cells };
+
+    fn put(self, cells: &mut [u32], at: usize) {
+        match self {
+            Guard::Compare {
+                left,
+                relation,
+                right,
+            } => put_four(cells, at, 0, left, u64::from(relation), right),
+            Guard::Membership { slot, low, high } => put_four(cells, at, 1, slot, low, high),
+        }
     }
+
+    ghost wide = { elim [ Compare l r x ↦ refl | Membership s l h ↦ refl ] };
 }
 
-fn put_bindings(cells: &mut [u32], at: usize, bindings: [BindingItem; 32], count: usize)
-    requires { (at ≤ 75000) × (count ≤ 32) }
-    ensures { cells.new ≡ sets cells.old at (map cell (flat (λ i. binding_cells i.binding) (take count bindings))) }
-{
-    let mut i: usize = 0;
-    while i < count {
-        let item = bindings[i];
-        let binding = item.binding;
-        put_binding(cells, at + 4 * i, binding);
-        i += 1;
+impl Item for Head {
+    const WIDTH: usize = 2;
+
+    ghost WIDTH = { 2 };
+
+    ghost item_cells = { head_cells };
+
+    fn put(self, cells: &mut [u32], at: usize) {
+        put_number(cells, at, self.argument);
+        put_number(cells, at + 1, self.value);
     }
+
+    ghost wide = { λ h. refl };
 }
 
-fn put_guards(cells: &mut [u32], at: usize, guards: [GuardItem; 32], count: usize)
-    requires { (at ≤ 75128) × (count ≤ 32) }
-    ensures { cells.new ≡ sets cells.old at (map cell (flat (λ i. guard_cells i.guard) (take count guards))) }
+// Items one after another, from `at` on.
+fn put_items<T: Item>(cells: &mut [u32], at: usize, items: &[T])
+    requires { at + T.WIDTH * length items.now ≤ 75264 }
+    ensures { cells.new ≡ sets cells.old at (map cell (flat T.item_cells items.now)) }
 {
-    let mut i: usize = 0;
-    while i < count {
-        let item = guards[i];
-        let guard = item.guard;
-        put_guard(cells, at + 4 * i, guard);
-        i += 1;
-    }
-}
-
-fn put_heads(cells: &mut [u32], at: usize, heads: [Head; 16], count: usize)
-    requires { (at ≤ 75264) × (count ≤ 16) }
-    ensures { cells.new ≡ sets cells.old at (map cell (flat head_cells (take count heads))) }
-{
-    let mut i: usize = 0;
-    while i < count {
-        let head = heads[i];
-        put_number(cells, at + 2 * i, head.argument);
-        put_number(cells, at + 2 * i + 1, head.value);
-        i += 1;
+    for (i, item) in items.iter().enumerate() {
+        item.put(cells, at + T::WIDTH * i);
     }
 }
 
@@ -253,128 +259,84 @@ pub fn put_rule(cells: &mut [u32], id: usize, rule: Rule, context: Option<u32>)
 {
     let at = ROW * id;
     let lengths = rule.lengths;
-    let bindings = rule.bindings;
-    let guards = rule.guards;
-    let heads = rule.heads;
     put_fixed(cells, at, rule, context);
-    put_bindings(cells, at + 6, bindings, lengths.bindings as usize);
-    put_guards(cells, at + 134, guards, lengths.guards as usize);
-    put_heads(cells, at + 262, heads, lengths.heads as usize);
+    put_items(cells, at + 6, &rule.bindings[..lengths.bindings as usize]);
+    put_items(cells, at + 134, &rule.guards[..lengths.guards as usize]);
+    put_items(cells, at + 262, &rule.heads[..lengths.heads as usize]);
 }
 
-// Where a row begins. All rows beyond the table begin at its end.
-fn start(len: usize, id: usize) -> usize
-    ensures { result ≡ min (row * id) len }
+// Where the j-th of things of one width begins; beyond the table, its end.
+fn reach(len: usize, width: usize, j: usize) -> usize
+    ensures { result ≡ min (width * j) len }
 {
-    if len / ROW < id {
-        return len;
-    }
-    ROW * id
-}
-
-// How far behind the first of its kind the j-th item stands, of four cells each; beyond the table, no further than its length.
-fn fours(len: usize, j: usize) -> usize
-    ensures { result ≡ min (4 * j) len }
-{
-    if len / 4 < j {
-        return len;
-    }
-    4 * j
-}
-
-// The same, of two cells each.
-fn twos(len: usize, j: usize) -> usize
-    ensures { result ≡ min (2 * j) len }
-{
-    if len / 2 < j {
-        return len;
-    }
-    2 * j
+    width.saturating_mul(j).min(len)
 }
 
 fn function_of(number: u32) -> AggregateFunction
     ensures { result ≡ function_of number }
 {
-    if number == 0 {
-        return AggregateFunction::Count;
+    match number {
+        0 => AggregateFunction::Count,
+        1 => AggregateFunction::Sum,
+        2 => AggregateFunction::SumPlus,
+        3 => AggregateFunction::Min,
+        _ => AggregateFunction::Max,
     }
-    if number == 1 {
-        return AggregateFunction::Sum;
-    }
-    if number == 2 {
-        return AggregateFunction::SumPlus;
-    }
-    if number == 3 {
-        return AggregateFunction::Min;
-    }
-    AggregateFunction::Max
 }
 
 fn relation_of(number: u32) -> Relation
     ensures { result ≡ relation_of number }
 {
-    if number == 0 {
-        return Relation::Lt;
+    match number {
+        0 => Relation::Lt,
+        1 => Relation::Le,
+        2 => Relation::Gt,
+        3 => Relation::Ge,
+        4 => Relation::Eq,
+        _ => Relation::Neq,
     }
-    if number == 1 {
-        return Relation::Le;
-    }
-    if number == 2 {
-        return Relation::Gt;
-    }
-    if number == 3 {
-        return Relation::Ge;
-    }
-    if number == 4 {
-        return Relation::Eq;
-    }
-    Relation::Neq
 }
 
 // A kind that does not exist reads as the first.
 fn binding_of(kind: u32, a: u32, b: u32, c: u32) -> Binding
     ensures { result ≡ binding_of kind a b c }
 {
-    let slot = a as u64;
-    if kind == 1 {
-        return Binding::Assign {
+    let slot = u64::from(a);
+    match kind {
+        1 => Binding::Assign {
             slot,
-            value: b as u64,
-        };
-    }
-    if kind == 2 {
-        return Binding::Range {
+            value: u64::from(b),
+        },
+        2 => Binding::Range {
             slot,
-            low: b as u64,
-            high: c as u64,
-        };
-    }
-    if kind == 3 {
-        return Binding::Aggregate {
+            low: u64::from(b),
+            high: u64::from(c),
+        },
+        3 => Binding::Aggregate {
             slot,
             function: function_of(b),
-        };
-    }
-    Binding::Positive {
-        slot,
-        argument: b as u64,
+        },
+        _ => Binding::Positive {
+            slot,
+            argument: u64::from(b),
+        },
     }
 }
 
 fn guard_of(kind: u32, a: u32, b: u32, c: u32) -> Guard
     ensures { result ≡ guard_of kind a b c }
 {
-    if kind == 1 {
-        return Guard::Membership {
-            slot: a as u64,
-            low: b as u64,
-            high: c as u64,
-        };
-    }
-    Guard::Compare {
-        left: a as u64,
-        relation: relation_of(b),
-        right: c as u64,
+    match kind {
+        1 => Guard::Membership {
+            slot: u64::from(a),
+            low: u64::from(b),
+            high: u64::from(c),
+        },
+        _ => Guard::Compare {
+            left: u64::from(a),
+            relation: relation_of(b),
+            right: u64::from(c),
+        },
     }
 }
 
@@ -391,44 +353,41 @@ fn context_of(mark: u32, number: u32) -> Option<u32>
 fn at_most(count: u32, room: u32) -> usize
     ensures { result ≡ min count room }
 {
-    if room < count {
-        return room as usize;
-    }
-    count as usize
+    count.min(room) as usize
 }
 
 pub fn slots_at(cells: &[u32], id: usize) -> u64
     ensures { result ≡ slots_at cells.now id }
 {
-    let at = start(cells.len(), id);
+    let at = reach(cells.len(), ROW, id);
     at_most(cells::cell_at(cells, at), 16) as u64
 }
 
 pub fn context_at(cells: &[u32], id: usize) -> Option<u32>
     ensures { result ≡ context_at cells.now id }
 {
-    let at = start(cells.len(), id);
+    let at = reach(cells.len(), ROW, id);
     context_of(cells::cell_at(cells, at + 1), cells::cell_at(cells, at + 2))
 }
 
 pub fn binding_count(cells: &[u32], id: usize) -> usize
     ensures { result ≡ binding_count cells.now id }
 {
-    let at = start(cells.len(), id);
+    let at = reach(cells.len(), ROW, id);
     at_most(cells::cell_at(cells, at + 3), 32)
 }
 
 pub fn guard_count(cells: &[u32], id: usize) -> usize
     ensures { result ≡ guard_count cells.now id }
 {
-    let at = start(cells.len(), id);
+    let at = reach(cells.len(), ROW, id);
     at_most(cells::cell_at(cells, at + 4), 32)
 }
 
 pub fn head_count(cells: &[u32], id: usize) -> usize
     ensures { result ≡ head_count cells.now id }
 {
-    let at = start(cells.len(), id);
+    let at = reach(cells.len(), ROW, id);
     at_most(cells::cell_at(cells, at + 5), 16)
 }
 
@@ -436,7 +395,7 @@ pub fn head_count(cells: &[u32], id: usize) -> usize
 pub fn binding_at(cells: &[u32], id: usize, j: usize) -> Binding
     ensures { result ≡ binding_at cells.now id j }
 {
-    let at = start(cells.len(), id) + 6 + fours(cells.len(), j);
+    let at = reach(cells.len(), ROW, id) + 6 + reach(cells.len(), 4, j);
     binding_of(
         cells::cell_at(cells, at),
         cells::cell_at(cells, at + 1),
@@ -448,7 +407,7 @@ pub fn binding_at(cells: &[u32], id: usize, j: usize) -> Binding
 pub fn guard_at(cells: &[u32], id: usize, j: usize) -> Guard
     ensures { result ≡ guard_at cells.now id j }
 {
-    let at = start(cells.len(), id) + 134 + fours(cells.len(), j);
+    let at = reach(cells.len(), ROW, id) + 134 + reach(cells.len(), 4, j);
     guard_of(
         cells::cell_at(cells, at),
         cells::cell_at(cells, at + 1),
@@ -460,9 +419,9 @@ pub fn guard_at(cells: &[u32], id: usize, j: usize) -> Guard
 pub fn head_at(cells: &[u32], id: usize, j: usize) -> Head
     ensures { result ≡ head_at cells.now id j }
 {
-    let at = start(cells.len(), id) + 262 + twos(cells.len(), j);
+    let at = reach(cells.len(), ROW, id) + 262 + reach(cells.len(), 2, j);
     Head {
-        argument: cells::cell_at(cells, at) as u64,
-        value: cells::cell_at(cells, at + 1) as u64,
+        argument: u64::from(cells::cell_at(cells, at)),
+        value: u64::from(cells::cell_at(cells, at + 1)),
     }
 }

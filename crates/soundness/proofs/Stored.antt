@@ -47,12 +47,11 @@ module _ {arguments expressions : ℕ} {nodes cells : List ℕ} {id : ℕ} (q : 
 
   pub bindings_inside : All (BindingIn arguments own) (bindings_at cells id)
   bindings_inside =
-      subst (All (BindingIn arguments own)) (sym (q.back.all_bindings (omega (arith, q.whole.0, q.inside.short.bindings))))
-      (all_map (BindingIn arguments own) (λ i. i.binding) (bindings_of q.rule) inside.bindings)
+      subst (All (BindingIn arguments own)) (sym (q.back.all_bindings (omega (arith, q.whole.0, q.inside.short.bindings)))) inside.bindings
 
   pub guards_inside : All (GuardIn own) (guards_at cells id)
   guards_inside =
-      subst (All (GuardIn own)) (sym (q.back.all_guards (omega (arith, q.whole.1.0, q.inside.short.guards)))) (all_map (GuardIn own) (λ i. i.guard) (guards_of q.rule) inside.guards)
+      subst (All (GuardIn own)) (sym (q.back.all_guards (omega (arith, q.whole.1.0, q.inside.short.guards)))) inside.guards
 
   pub heads_inside : All (HeadIn arguments own) (heads_at cells id)
   heads_inside = subst (All (HeadIn arguments own)) (sym (q.back.all_heads (omega (arith, q.whole.1.1, q.inside.short.heads)))) inside.heads

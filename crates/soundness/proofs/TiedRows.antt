@@ -431,8 +431,8 @@ module _ (q : Rule) (whole : Whole q) (p : Accepted) (t : Tables) (h : Tied p t)
       newest = record {
         id = i;
         below = omega (arith, count, a.next);
-        bindings = sym (ap (map (binding_of (tree_at p))) (a.back.all_bindings (omega (arith, whole.0, a.inside.short.bindings))) ∙ map-map (binding_of (tree_at p)) (λ x. x.binding) (bindings_of q));
-        guards = sym (ap (map (guard_of (tree_at p))) (a.back.all_guards (omega (arith, whole.1.0, a.inside.short.guards))) ∙ map-map (guard_of (tree_at p)) (λ x. x.guard) (guards_of q));
+        bindings = sym (ap (map (binding_of (tree_at p))) (a.back.all_bindings (omega (arith, whole.0, a.inside.short.bindings))));
+        guards = sym (ap (map (guard_of (tree_at p))) (a.back.all_guards (omega (arith, whole.1.0, a.inside.short.guards))));
         heads = sym (ap (map (head_of (tree_at p))) (a.back.all_heads (omega (arith, whole.1.1, a.inside.short.heads))));
       }
 

@@ -61,8 +61,8 @@ tree_at p i = or_nothing (first p.trees i)
 
 abbrev pub rule_of : Accepted → Rule → PlainRule
 rule_of p r = record {
-  bindings = map (λ i. binding_of (tree_at p) i.binding) (bindings_of r);
-  guards = map (λ i. guard_of (tree_at p) i.guard) (guards_of r);
+  bindings = map (binding_of (tree_at p)) (bindings_of r);
+  guards = map (guard_of (tree_at p)) (guards_of r);
   heads = map (head_of (tree_at p)) (heads_of r);
 }
 

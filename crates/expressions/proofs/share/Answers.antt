@@ -22,4 +22,4 @@ overflow_add-store c =
 
 pub returns : goal.returns
 returns c =
-    share_new c.args.value c.args.store.now c.args.nodes.now _ (rw c.meter-meter.ensures at c.seek_older-sought.ensures) c.settle.ensures c.in_ok-old.was c.in_default.is c.in_ok-pay.ensures c.deepest-nesting.ensures c.node.ensures c.put_node.ensures
+    share_new c.args.value c.args.store.now c.args.nodes.now _ (rw c.meter-meter.ensures at c.seek_older-sought.ensures) c.settle.ensures c.in_ok-old.was c.in_default.is c.in_ok-pay.ensures c.deepest-nesting.ensures c.from.ensures c.put_node.ensures

@@ -1,6 +1,6 @@
 -- `lattice::retained` meets its contract.
 use mathlib.Core.Path.{ap, ◌∙◌}
-use mathlib.Core.List.{List, [], ◌∷◌, ◌++◌}
+use mathlib.Core.List.{[], ◌∷◌, ◌++◌}
 use Rattle.lists.proofs.Seen.{seen_exits}
 use Rattle.limits.proofs.Answering.{went, broke}
 use Rattle.lattice.specs.Value.{value_of}

@@ -1,5 +1,5 @@
 -- `lattice::same_lists` meets its contract.
-use Rattle.lattice.proofs.CodeLaws.{lists_same, lengths_other, left_only, right_only, no_lists}
+use Rattle.lattice.proofs.CodeLaws.{lengths_other, left_only, right_only, no_lists}
 use Rattle.lattice.proofs.same_lists.Goals as goal
 
 pub returns-in-None-None : goal.returns-in-None-None

@@ -1,48 +1,24 @@
 -- `nodes::expression_of` meets its contract.
-use Rattle.nodes.proofs.CodeLaws.{as_constant, as_slot, as_unknown, as_unary, as_absolute, as_binary, left_above, right_above, no_kind}
+use Rattle.nodes.proofs.CodeLaws.{as_unary, as_absolute, as_binary, no_unary, no_absolute, no_left, no_right}
 use Rattle.nodes.proofs.expression_of.Goals as goal
 
-pub returns-then-node-eq0 : goal.returns-then-node-eq0
-returns-then-node-eq0 c =
-    let a = c.args in
-    as_constant a.node a.id c.if-node-eq0.true
+pub returns-in-2 : goal.returns-in-2
+returns-in-2 c = as_unary c.args.node c.args.id c.if-node-id.true c.in-2.is c.unary_of.ensures
 
-pub returns-then-node-eq1 : goal.returns-then-node-eq1
-returns-then-node-eq1 c =
-    let a = c.args in
-    as_slot a.node a.id c.if-node-eq1.true
+pub returns-in-3 : goal.returns-in-3
+returns-in-3 c = as_absolute c.args.node c.args.id c.if-node-id-2.true c.in-3.is
 
-pub returns-then-node-eq5 : goal.returns-then-node-eq5
-returns-then-node-eq5 c =
-    let a = c.args in
-    as_unknown a.node a.id c.if-node-eq5.true c.widening_of.ensures
+pub returns-in-4 : goal.returns-in-4
+returns-in-4 c = as_binary c.args.node c.args.id c.if-node-id-3.true c.if-node-id-4.true c.in-4.is c.binary_of.ensures
 
-pub returns-then-id-node : goal.returns-then-id-node
-returns-then-id-node c =
-    let a = c.args in
-    left_above a.node a.id c.if-node-eq0.false c.if-node-eq1.false c.if-node-eq5.false c.if-id-node.true c.unread.ensures
+pub returns-in_default : goal.returns-in_default
+returns-in_default c = no_unary c.args.node c.args.id c.if-node-id.false c.in-2.is
 
-pub returns-then-node-eq2 : goal.returns-then-node-eq2
-returns-then-node-eq2 c =
-    let a = c.args in
-    as_unary a.node a.id c.if-id-node.false c.if-node-eq2.true c.unary_of.ensures
+pub returns-in_default-2 : goal.returns-in_default-2
+returns-in_default-2 c = no_absolute c.args.node c.args.id c.if-node-id-2.false c.in-3.is
 
-pub returns-then-node-eq3 : goal.returns-then-node-eq3
-returns-then-node-eq3 c =
-    let a = c.args in
-    as_absolute a.node a.id c.if-id-node.false c.if-node-eq3.true
+pub returns-in_default-3 : goal.returns-in_default-3
+returns-in_default-3 c = no_right c.args.node c.args.id c.if-node-id-4.false c.in-4.is
 
-pub returns-then-id-node-2 : goal.returns-then-id-node-2
-returns-then-id-node-2 c =
-    let a = c.args in
-    right_above a.node a.id c.if-node-eq0.false c.if-node-eq1.false c.if-node-eq5.false c.if-node-eq2.false c.if-node-eq3.false c.if-id-node-2.true c.unread-then-id-node-2.ensures
-
-pub returns-then-node-eq4 : goal.returns-then-node-eq4
-returns-then-node-eq4 c =
-    let a = c.args in
-    as_binary a.node a.id c.if-id-node.false c.if-id-node-2.false c.if-node-eq4.true c.binary_of.ensures
-
-pub returns : goal.returns
-returns c =
-    let a = c.args in
-    no_kind a.node a.id c.if-node-eq0.false c.if-node-eq1.false c.if-node-eq5.false c.if-node-eq2.false c.if-node-eq3.false c.if-node-eq4.false c.unread-2.ensures
+pub returns-in_default-4 : goal.returns-in_default-4
+returns-in_default-4 c = no_left c.args.node c.args.id c.if-node-id-3.false c.in-4.is

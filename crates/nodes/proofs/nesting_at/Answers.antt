@@ -3,6 +3,4 @@ use Rattle.nodes.proofs.CodeLaws.{nesting_read}
 use Rattle.nodes.proofs.nesting_at.Goals as goal
 
 pub returns : goal.returns
-returns c =
-    let a = c.args in
-    nesting_read a.cells.now a.id c.start-at.result c.start-at.ensures c.word_at.ensures
+returns c = nesting_read c.args.cells.now c.args.id c.start.result c.start.ensures c.word_at.ensures

@@ -1,6 +1,6 @@
 -- `rows::copied_at` meets its contract.
 use Rattle.lists.proofs.Seen.{seen_exits}
-use Rattle.lattice.proofs.CodeLaws.{copied_stopped, copied_none, list_stopped, entries_stopped, list_copied}
+use Rattle.lattice.proofs.CodeLaws.{copied_stopped, copied_none, list_stopped}
 use Rattle.rows.specs.Row.{value_at}
 use Rattle.rows.proofs.CodeLaws.{kept_listed, none_listed, copied_entries}
 use Rattle.rows.proofs.copied_at.Goals as goal

@@ -5,4 +5,4 @@ use Rattle.rules.proofs.slots_at.Goals as goal
 pub returns : goal.returns
 returns c =
     let a = c.args in
-    slots_read a.cells.now a.id c.start-at.result c.start-at.ensures c.cell_at.ensures c.at_most.ensures
+    slots_read a.cells.now a.id c.reach-at.result c.reach-at.ensures c.cell_at.ensures c.at_most.ensures

@@ -1,5 +1,5 @@
 -- `lattice::Meeting::keep_one` meets its contract.
-use mathlib.Core.Path.{sym, ◌∙◌}
+use mathlib.Core.Path.{◌∙◌}
 use Rattle.limits.specs.Meter.{work}
 use Rattle.limits.proofs.Answering.{went, broke, exits, held_is}
 use Rattle.lattice.specs.Value.{value_of}

@@ -1,6 +1,5 @@
 -- `rows::bridge::copied_at_counted` meets its contract.
 use Rattle.limits.specs.Meter.{meter}
-use Rattle.lattice.specs.Lattice.{copied}
 use Rattle.lattice.proofs.Limits.{keeps_copied, kept_going, kept_stopped}
 use Rattle.rows.specs.Row.{value_at}
 use Rattle.rows.proofs.bridge.copied_at_counted.Goals as goal

@@ -1,7 +1,7 @@
--- `producers::BindingItem::check` meets its contract.
+-- `producers::Binding::check` meets its contract.
 use Rattle.limits.proofs.Answering.{replied_ok, replied_err, refuses}
 use Rattle.limits.proofs.Monad.{then_on, then_stop}
-use Rattle.producers.proofs.BindingItemPart.check.Goals as goal
+use Rattle.producers.proofs.BindingPart.check.Goals as goal
 
 pub returns-in_err-check_expression-in-Assign : goal.returns-in_err-check_expression-in-Assign
 returns-in_err-check_expression-in-Assign c = refuses _ _ c.from_residual.ensures.1 (rw c.in-Assign.is (then_stop _ _ _ (replied_err c.check_expression.ensures c.in_err-check_expression-in-Assign.was)))
