@@ -63,10 +63,11 @@ module _ (nodes : List ℕ) (e : Node) where
     | no b ↦ let z : at ≡ i = omega arith in let t : Same at = rw z s in rw t (omega arith)
   ]
 
-  pub first_is : (count : ℕ) (r : Option ℕ) → MatchOption r ((k : ℕ) → 0 ≤ k → k < count → Other k) (λ i. (0 ≤ i) × (i < count) × Same i × ((k : ℕ) → 0 ≤ k → k < i → Other k)) →
-      MatchOption r (count ≤ first_node nodes e 0 count) (λ i. (i < count) × (i ≡ first_node nodes e 0 count))
-  first_is count None h = let z = none_from count 0 (λ k l m. h k l (omega arith)) in omega arith
-  first_is count (Some i) h = let z = first_from count 0 i (omega arith) (omega (arith, h.1)) h.2 h.3 in (h.1, omega arith)
+  pub none_is : (count i : ℕ) → count ≤ i → ((k : ℕ) → k < i → Other k) → count ≤ first_node nodes e 0 count
+  none_is count i l h = let z = none_from count 0 (λ k _ m. h k (omega arith)) in omega arith
+
+  pub first_is : (count i : ℕ) → i < count → ((k : ℕ) → k < i → Other k) → Same i → (i < count) × (i ≡ first_node nodes e 0 count)
+  first_is count i l h s = let z = first_from count 0 i (omega arith) (omega arith) s (λ k _ m. h k m) in (l, omega arith)
 
 -- ---- what it pays: a unit for each row that it looked at
 

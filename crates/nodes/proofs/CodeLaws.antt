@@ -1,28 +1,21 @@
 -- What the code of nodes reads and writes is what the definitions say.
-use Prim.Native.Nat.{ℕ, zero, suc, min, ◌+◌, ◌-◌, ◌*◌, ◌≤◌, ◌<◌}
+use Prim.Native.Nat.{ℕ, min, ◌+◌, ◌-◌, ◌*◌, ◌≤◌, ◌<◌}
 use native.Mathlib.Omega.{arith}
 use native.Mathlib.Nat.{add-zero}
 use native.Mathlib.Numerals.{towards_suc}
 use native.Mathlib.Decide.{dec_le}
 use mathlib.Core.Path.{◌≡◌, refl, sym, ap, ◌∙◌}
-use mathlib.Core.Bool.{Bool, false, not, ◌&&◌}
 use mathlib.Core.List.{List, [], ◌∷◌}
-use borrow.Author.Tests.{lt-ltb, le-ltb, eq-eqb, ne_eqb}
-use lib.Dec.{ltb, eqb}
+use borrow.Author.Tests.{lt-ltb, le-ltb}
+use lib.Dec.{ltb}
 use lib.ListN.{length, get_or, take, drop, set, length-drop, get_or-eq_default}
 use lib.Seq.{sets, take_all, get_or-drop}
 use Rattle.integers.proofs.Tests.{and_false}
 use Rattle.integers.proofs.Stores.{sets_min}
-use Rattle.lattice.specs.declared.Widening.{Widening}
-use Rattle.lattice.specs.declared.Widening.TheVariants.{HeadForm, HeadTerm, UnboundVariable, SymbolSize, ValueWidth, Dependency}
-use Rattle.lattice.specs.Value.{widening_number}
-use Rattle.nodes.specs.declared.UnaryOp.{UnaryOp}
-use Rattle.nodes.specs.declared.BinaryOp.{BinaryOp}
-use Rattle.nodes.specs.declared.BinaryOp.TheVariants.{Pow, BitAnd, BitOr, BitXor}
 use Rattle.nodes.specs.declared.Expression.{Expression}
-use Rattle.nodes.specs.declared.Expression.TheVariants.{Constant, Slot, Unary, Absolute, Binary, Unknown}
+use Rattle.nodes.specs.declared.Expression.TheVariants.{Absolute}
 use Rattle.nodes.specs.declared.Node.{Node}
-use Rattle.nodes.specs.Node.{unary_number, binary_number, mark_of, node, node_of, same_node, widening_of, unread, unary_of, binary_of, expression_of, row, node_at, nesting_at, expression_at, put_node}
+use Rattle.nodes.specs.Node.{node, unread, unary_of, binary_of, expression_of, row, node_at, nesting_at, expression_at, put_node}
 
 -- ---- from cells to an expression
 

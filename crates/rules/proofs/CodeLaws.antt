@@ -1,26 +1,22 @@
 -- What the writes of a rule leave, over plain variables.
-use Prim.Native.Nat.{ℕ, zero, suc, min, ◌+◌, ◌*◌, ◌≤◌, ◌<◌}
+use Prim.Native.Nat.{ℕ, suc, min, ◌+◌, ◌*◌, ◌≤◌, ◌<◌}
 use native.Mathlib.Omega.{arith}
 use native.Mathlib.Nat.{add-zero}
 use native.Mathlib.Numerals.{add-one, towards_suc}
 use mathlib.Core.Path.{◌≡◌, refl, sym, ap, ◌∙◌}
 use mathlib.Core.List.{List, [], ◌∷◌, ◌++◌, map, map-append}
-use lib.ListN.{length, get_or, take, drop, set, length-map, length-take, drop_of_length-le, get_or-eq_default}
-use lib.Seq.{sets, drop-cons, get_or-take}
+use lib.ListN.{length, get_or, drop, set, length-map, drop_of_length-le}
+use lib.Seq.{sets, drop-cons}
 use Rattle.integers.proofs.Stores.{get_or_min}
 use Rattle.store.specs.Store.{Context}
-use Rattle.rules.specs.declared.AggregateFunction.{AggregateFunction}
-use Rattle.rules.specs.declared.AggregateFunction.TheVariants.{Count, Sum, SumPlus, Min, Max}
-use Rattle.rules.specs.declared.Relation.{Relation}
-use Rattle.rules.specs.declared.Relation.TheVariants.{Lt, Le, Gt, Ge, Eq, Neq}
 use Rattle.rules.specs.declared.Binding.{Binding}
 use Rattle.rules.specs.declared.Binding.TheVariants.{Positive, Assign, Range, Aggregate}
 use Rattle.rules.specs.declared.Guard.{Guard}
 use Rattle.rules.specs.declared.Guard.TheVariants.{Compare, Membership}
 use Rattle.rules.specs.declared.Head.{Head}
 use Rattle.rules.specs.declared.Rule.{Rule}
-use Rattle.rules.specs.Rule.{function_number, relation_number, binding_cells, guard_cells, head_cells, mark_of, number_of, fixed_cells, bindings_of, guards_of, heads_of, flat, cell, row, put_rule}
-use Rattle.rules.specs.Read.{function_of, relation_of, binding_of, guard_of, head_of, context_of, slots_at, context_at, binding_count, guard_count, head_count, binding_at, guard_at, head_at}
+use Rattle.rules.specs.Rule.{binding_cells, guard_cells, head_cells, mark_of, number_of, fixed_cells, bindings_of, guards_of, heads_of, flat, cell, row, put_rule}
+use Rattle.rules.specs.Read.{binding_of, guard_of, head_of, context_of, slots_at, context_at, binding_count, guard_count, head_count, binding_at, guard_at, head_at}
 
 -- ---- cells one after another
 

@@ -1,46 +1,62 @@
 -- The turns of a search: where it stands, and what each way out of a turn makes of it.
 use Prim.Native.Nat.{ℕ, zero, suc, ◌+◌, ◌≤◌, ◌<◌}
 use native.Mathlib.Omega.{arith}
-use mathlib.Core.Path.{◌≡◌, sym, ◌∙◌}
+use native.Mathlib.Numerals.{add-one}
+use mathlib.Core.Path.{◌≡◌, refl, sym, ◌∙◌}
 use borrow.Author.Tests.{lt-ltb, le-ltb, eq-eqb, ne_eqb}
 use Rattle.integers.proofs.ListLaws.{Compared, less, more, same, compared}
 use Rattle.limits.specs.declared.Stop.{Stop}
-use Rattle.limits.specs.Metered.{Run, going, stopped, pure, after, ◌>>=◌, ◌>>◌}
+use Rattle.limits.specs.Metered.{Metered, pure, ◌>>◌}
 use Rattle.limits.specs.declared.Meter.{Meter}
-use Rattle.limits.specs.Meter.{work}
+use Rattle.limits.specs.Meter.{work, units}
+use Rattle.limits.proofs.Units.{units_more, units_nothing}
 use Rattle.std.specs.declared.cmp.Ordering.{Ordering}
 use Rattle.std.specs.declared.cmp.Ordering.TheVariants.{Less, Equal, Greater}
-use Rattle.search.specs.Seek.{Place, found, absent, middle, seek, compareℕ}
+use Rattle.search.specs.Seek.{found, absent, by, middle, seek, compareℕ}
 
--- the answer x is that of the search from here, with turns enough
-pub data At (x : Run Stop Meter Place) (probe : ℕ → Ordering) (low high : ℕ) (m : Meter) : Type 0 where
-  here : (turns : ℕ) → high ≤ low + turns → x ≡ seek probe turns low high m → At x probe low high m
+-- a unit more at the end
+units_last : {A : Type 0} (n : ℕ) (d : Metered Stop Meter A) (m : Meter) → (units (suc n) >> d) m ≡ (units n >> (work 1 >> d)) m
+units_last zero d m = units_more 0 d d m (units_nothing d) ∙ sym (units_nothing (work 1 >> d) m)
+units_last (suc n) d m =
+    units_more (suc n) d (units n >> (work 1 >> d)) m (λ t. units_last n d t) ∙ sym (units_more n (work 1 >> d) (units n >> (work 1 >> d)) m (λ t. refl))
 
-module _ {x : Run Stop Meter Place} {probe : ℕ → Ordering} {low high : ℕ} {m : Meter} where
-  pub at_end : At x probe low high m → high ≤ low → going (absent low) m ≡ x
-  unfolding seek pure
-  at_end (here zero k s) h = sym s
-  at_end (here (suc f) k s) h = sym (s ∙ rw (le-ltb low high h))
+one_more : {A : Type 0} (n : ℕ) (d : Metered Stop Meter A) (m : Meter) → (units (n + 1) >> d) m ≡ (units n >> (work 1 >> d)) m
+one_more n d m = rw (add-one n) (units_last n d m)
 
-  pub at_stop : {e : Stop} {m' : Meter} → At x probe low high m → low < high → stopped e m' ≡ work 1 m → stopped e m' ≡ x
-  unfolding seek ◌>>◌ ◌>>=◌ after
-  at_stop (here zero k s) h e = absurd (omega arith)
-  at_stop (here (suc f) k s) h e = sym (s ∙ rw (lt-ltb low high h, ← e))
+nothing_left : (probe : ℕ → Ordering) (low high turns : ℕ) → high ≤ low → seek probe turns low high ≡ pure (absent low)
+unfolding seek
+nothing_left probe low high zero h = refl
+nothing_left probe low high (suc f) h = rw (le-ltb low high h)
 
-  pub at_found : {m' : Meter} → At x probe low high m → low < high → going tt m' ≡ work 1 m → probe (middle low high) ≡ Equal → going (found (middle low high)) m' ≡ x
-  unfolding seek ◌>>◌ ◌>>=◌ after pure
-  at_found (here zero k s) h e a = absurd (omega arith)
-  at_found (here (suc f) k s) h e a = sym (s ∙ rw (lt-ltb low high h, ← e, a))
+turn : (probe : ℕ → Ordering) (low high f : ℕ) {o : Ordering} → low < high → probe (middle low high) ≡ o →
+    seek probe (suc f) low high ≡ (work 1 >> by o (seek probe f (middle low high + 1) high) (pure (found (middle low high))) (seek probe f low (middle low high)))
+unfolding seek
+turn probe low high f h e = rw (lt-ltb low high h, e)
 
-  pub at_right : {m' : Meter} → At x probe low high m → low < high → going tt m' ≡ work 1 m → probe (middle low high) ≡ Less → At x probe (middle low high + 1) high m'
-  unfolding seek ◌>>◌ ◌>>=◌ after
-  at_right (here zero k s) h e a = absurd (omega arith)
-  at_right (here (suc f) k s) h e a = here f (omega arith) (s ∙ rw (lt-ltb low high h, ← e, a))
+-- n items looked at are paid for, and the search goes on from here, with turns enough
+pub data Looked (probe : ℕ → Ordering) (count low high n : ℕ) : Type 0 where
+  here : (turns : ℕ) → high ≤ low + turns → ((m : Meter) → (units n >> seek probe turns low high) m ≡ seek probe count 0 count m) → Looked probe count low high n
 
-  pub at_left : {m' : Meter} → At x probe low high m → low < high → going tt m' ≡ work 1 m → probe (middle low high) ≡ Greater → At x probe low (middle low high) m'
-  unfolding seek ◌>>◌ ◌>>=◌ after
-  at_left (here zero k s) h e a = absurd (omega arith)
-  at_left (here (suc f) k s) h e a = here f (omega arith) (s ∙ rw (lt-ltb low high h, ← e, a))
+module _ {probe : ℕ → Ordering} {count : ℕ} where
+  pub looked_none : Looked probe count 0 count 0
+  looked_none = here count (omega arith) (λ m. units_nothing (seek probe count 0 count) m)
+
+  module _ {low high n : ℕ} where
+    pub looked_end : Looked probe count low high n → high ≤ low → (m : Meter) → (units n >> pure (absent low)) m ≡ seek probe count 0 count m
+    looked_end (here f k s) h m = rw (nothing_left probe low high f h) at (s m)
+
+    module _ (h : low < high) where
+      pub looked_found : Looked probe count low high n → probe (middle low high) ≡ Equal → (m : Meter) → (units (n + 1) >> pure (found (middle low high))) m ≡ seek probe count 0 count m
+      looked_found (here zero k s) e m = absurd (omega arith)
+      looked_found (here (suc f) k s) e m = one_more n _ m ∙ (rw (turn probe low high f h e) at (s m))
+
+      pub looked_right : Looked probe count low high n → probe (middle low high) ≡ Less → Looked probe count (middle low high + 1) high (n + 1)
+      looked_right (here zero k s) e = absurd (omega arith)
+      looked_right (here (suc f) k s) e = here f (omega arith) (λ m. one_more n _ m ∙ (rw (turn probe low high f h e) at (s m)))
+
+      pub looked_left : Looked probe count low high n → probe (middle low high) ≡ Greater → Looked probe count low (middle low high) (n + 1)
+      looked_left (here zero k s) e = absurd (omega arith)
+      looked_left (here (suc f) k s) e = here f (omega arith) (λ m. one_more n _ m ∙ (rw (turn probe low high f h e) at (s m)))
 
 -- ---- two natural numbers, by the tests of the code
 

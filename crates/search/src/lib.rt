@@ -8,7 +8,8 @@ ghost use Rattle.search.specs.Seek.{Computes, Seeks};
 use limits::{Meter, Stop};
 use std::cmp::Ordering;
 
-// Among `count` items, where `probe` says how an item stands to the one that is sought: the place of an equal item, or where one would stand.
+// Among `count` items, where `probe` says how an item stands to the one that is sought: the place of an equal item, or where one
+// would stand. The place is found first and paid for afterwards, so that the loop pays nothing.
 pub fn seek<F: Fn(usize) -> Ordering>(
     count: usize,
     probe: F,
@@ -19,15 +20,20 @@ pub fn seek<F: Fn(usize) -> Ordering>(
 {
     let mut low = 0;
     let mut high = count;
+    let mut looks = 0;
     while low < high {
-        meter.work(1)?;
         let middle = low + (high - low) / 2;
+        looks += 1;
         match probe(middle) {
             Ordering::Less => low = middle + 1,
-            Ordering::Equal => return Ok(Ok(middle)),
+            Ordering::Equal => {
+                meter.units(looks)?;
+                return Ok(Ok(middle));
+            }
             Ordering::Greater => high = middle,
         }
     }
+    meter.units(looks)?;
     Ok(Err(low))
 }
 

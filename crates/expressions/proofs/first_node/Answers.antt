@@ -1,10 +1,13 @@
 -- `expressions::first_node` meets its contract.
-use Rattle.std.proofs.Common.{rules}
-use Rattle.std.proofs.lemmas.Iterator.{first_from_Range}
-use Rattle.expressions.proofs.CodeLaws.{Same, Other, first_is}
+use Rattle.std.proofs.Common.{sym, ◌∙◌, below_more, arith}
+use Rattle.expressions.proofs.CodeLaws.{first_is, none_is}
 use Rattle.expressions.proofs.first_node.Goals as goal
 
+pub returns-then-has_node : goal.returns-then-has_node
+returns-then-has_node c = first_is _ _ _ _ (omega arith) c.loop-i.invariant (sym c.has_node.ensures ∙ c.if-has_node.true)
+
+pub loop-i-preserved : goal.loop-i-preserved
+loop-i-preserved c = below_more _ _ c.loop-i.invariant (sym c.has_node.ensures ∙ c.if-has_node.false)
+
 pub returns : goal.returns
-returns c =
-    first_is c.args.nodes.now c.args.node c.args.count c.find.result
-    (first_from_Range _ _ _ _ (Same c.args.nodes.now c.args.node) (Other c.args.nodes.now c.args.node) c.find.ensures.ran (λ x q h. search rules) (λ x q h. search rules))
+returns c = none_is _ _ _ _ (omega arith) c.loop-i.invariant

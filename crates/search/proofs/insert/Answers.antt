@@ -1,6 +1,5 @@
 -- `search::insert` meets its contract.
 use Rattle.std.proofs.Common.{refl, arith}
-use Rattle.integers.proofs.Stores.{sets_out}
 use Rattle.search.proofs.Inserted.{turned_in, beyond}
 use Rattle.search.proofs.insert.Goals as goal
 
