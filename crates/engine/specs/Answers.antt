@@ -29,10 +29,6 @@ abbrev pub progressed : Ran → List ℕ → List ℕ → List ℕ → Run Stop 
 progressed (ran.Done b c) current growth bounds = going tt (progress b c current growth bounds)
 progressed (ran.Stopped e b c) current growth bounds = stopped e (progress b c current growth bounds)
 
-abbrev pub on_tables : Done → List ℤ → List ℕ → List ℕ → Run Told Tables (Unit {0})
-on_tables (Ok s) thresholds arguments slots = going tt (tables s thresholds arguments slots)
-on_tables (Refused r s) thresholds arguments slots = stopped (told r) (tables s thresholds arguments slots)
-
 -- what is left of the header and of the result tables after a run, whatever thresholds and growth it leaves
 pub record Concludes (s : Store) (r : Ran) (n : ℕ) (seeds current bounds arguments slots : List ℕ) (s' : Store) (arguments' slots' : List ℕ) : Type 0 where
   pub at : (marks : List ℤ) (before : List ℤ) (growth : List ℕ) → tables s' marks arguments' slots' ≡ concluded seeds n marks (tables s before arguments slots) (progressed r current growth bounds)

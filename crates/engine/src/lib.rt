@@ -11,11 +11,12 @@ ghost use Rattle.evaluation.specs.Evaluation.{input};
 ghost use Rattle.rounds.specs.Round.{given};
 ghost use Rattle.engine.specs.Run.{enter_ends, start, seeded, beginning, begin, progress, ascend_and_end, finish};
 ghost use Rattle.engine.specs.Call.{read, tables, sizes, result_sizes, spacious, ended_in, ran_on, run_call};
-ghost use Rattle.engine.specs.Answers.{started, begun, progressed, Concludes, on_tables};
+ghost use Rattle.limits.specs.Refusal.{replied};
+ghost use Rattle.engine.specs.Answers.{started, begun, progressed, Concludes};
 
 use limits::{Billed, Budget, Refusal, Resource};
 use rounds::Ran;
-use store::{Counts, Done, Phase, Store};
+use store::{Counts, Phase, Store};
 use thresholds::Entered;
 
 // Two cells for each argument.
@@ -246,50 +247,34 @@ fn run_open(
 }
 
 // The sizes of the tables that a run reads.
-fn sized(nodes: usize, constants: usize, rules: usize, seeds: usize, thresholds: usize) -> bool
+fn is_sized(nodes: usize, constants: usize, rules: usize, seeds: usize, thresholds: usize) -> bool
     ensures { result ≡ sizes nodes constants rules seeds thresholds }
 {
-    if nodes != nodes::ROW * 1024 {
-        return false;
-    }
-    if constants != 2048 {
-        return false;
-    }
-    if rules != rules::ROW * 256 {
-        return false;
-    }
-    if seeds != rounds::ARGUMENTS {
-        return false;
-    }
-    thresholds == 4096
+    nodes == nodes::ROW * 1024
+        && constants == 2048
+        && rules == rules::ROW * 256
+        && seeds == rounds::ARGUMENTS
+        && thresholds == 4096
 }
 
 // The sizes of the result tables.
-fn result_sized(arguments: usize, slots: usize) -> bool
+fn is_result_sized(arguments: usize, slots: usize) -> bool
     ensures { result ≡ result_sizes arguments slots }
 {
-    if arguments != rounds::ARGUMENTS {
-        return false;
-    }
-    slots == results::BOUNDS
+    arguments == rounds::ARGUMENTS && slots == results::BOUNDS
 }
 
 // Whether the tables have the rows that the header counts, and room for both ends.
-fn room(counts: Counts) -> bool
-    ensures { result ≡ spacious counts }
+fn has_room(counts: &Counts) -> bool
+    ensures { result ≡ spacious counts.now }
 {
-    if 256 < counts.positions {
-        return false;
-    }
-    if 256 < counts.rules {
-        return false;
-    }
-    counts.thresholds <= 4094
+    counts.positions <= 256 && counts.rules <= 256 && counts.thresholds <= 4094
 }
 
 // The run. It closes the store, completed or stopped.
+#[tactic(auto, unfolding(crate::specs::Call::run_call))]
 pub fn run(
-    store: Store,
+    store: &mut Store,
     nodes: &[u64],
     constants: &[u32],
     rules: &[u32],
@@ -297,29 +282,27 @@ pub fn run(
     thresholds: &mut [i32],
     arguments: &mut [u32],
     slots: &mut [u32],
-) -> Done
-    ensures { on_tables result thresholds.new arguments.new slots.new ≡ run_call (read nodes.now constants.now rules.now seeds.now) (tables store thresholds.old arguments.old slots.old) }
+) -> Result<(), Refusal>
+    ensures { replied result (tables store.new thresholds.new arguments.new slots.new) ≡ run_call (read nodes.now constants.now rules.now seeds.now) (tables store.old thresholds.old arguments.old slots.old) }
 {
-    let phase = store.phase;
-    if !sized(
+    if !is_sized(
         nodes.len(),
         constants.len(),
         rules.len(),
         seeds.len(),
         thresholds.len(),
-    ) {
-        return Done::Refused(Refusal::Shape, store);
+    ) || !is_result_sized(arguments.len(), slots.len())
+    {
+        return Err(Refusal::Shape);
     }
-    if !result_sized(arguments.len(), slots.len()) {
-        return Done::Refused(Refusal::Shape, store);
+    if !store.phase.admits() {
+        return Err(Refusal::Closed);
     }
-    if !phase.admits() {
-        return Done::Refused(Refusal::Closed, store);
+    if !has_room(&store.counts) {
+        return Err(Refusal::Full);
     }
-    if !room(store.counts) {
-        return Done::Refused(Refusal::Full, store);
-    }
-    Done::Ok(run_open(
-        store, nodes, constants, rules, seeds, thresholds, arguments, slots,
-    ))
+    *store = run_open(
+        *store, nodes, constants, rules, seeds, thresholds, arguments, slots,
+    );
+    Ok(())
 }
