@@ -22,7 +22,8 @@ use Rattle.store.specs.Calls.{bottoms}
 use Rattle.seeds.specs.Seed.{IntervalTables, interval_tables, seed_interval_call}
 use Rattle.affine.specs.declared.Shape.TheVariants.{Reversed}
 use Rattle.affine.specs.Affine.{solved}
-use Rattle.widening.specs.Widening.{growth, Wide, wide, widen}
+use Rattle.widening.specs.declared.Wide.{Wide}
+use Rattle.widening.specs.Widening.{growth, wide, widen}
 
 infix 5 ◌is◌
 pub data Example : Type 1 where
