@@ -119,7 +119,7 @@ fn word_at(cells: &[u64], i: usize) -> u64
     cells.get(i).copied().unwrap_or(0)
 }
 
-// A cell beyond the table is not written.
+// A cell beyond the table is not written. An index, since std's `get_mut` does not say what the slice ends as.
 fn put_word(cells: &mut [u64], i: usize, word: u64)
     ensures { cells.new ≡ set cells.old i word }
 {
@@ -166,6 +166,7 @@ pub fn put_node(cells: &mut [u64], id: usize, node: Node, nesting: u64)
     put_word(cells, at + 4, nesting);
 }
 
+// Any number reads as a reason: no `TryFrom`, since it cannot fail.
 fn widening_of(number: u64) -> Widening
     ensures { result ≡ widening_of number }
 {
