@@ -100,7 +100,7 @@ pub fn limits(reader: &mut Reader) -> Result<Limits, Malformed> {
 pub fn name(reader: &mut Reader, bytes: &mut [u8; NAME]) -> Result<usize, Malformed> {
     let len = (reader.number(NAME as u64)? as usize).min(NAME);
     for i in 0..len {
-        bytes[i] = reader.number(255)? as u8;
+        bytes[i] = u8::try_from(reader.number(255)?).map_err(|_| Malformed {})?;
     }
     Ok(len)
 }

@@ -37,8 +37,8 @@ impl Session {
         match call {
             1 => self.fresh()?,
             2 => {
-                let context = self.reader.number(u64::from(u32::MAX))?;
-                self.writer.done(self.store.context(context as u32));
+                let context = u32::try_from(self.reader.wide()?).map_err(|_| Malformed {})?;
+                self.writer.done(self.store.context(context));
             }
             3 => {
                 let amount = self.reader.wide()?;
