@@ -17,8 +17,7 @@ use Rattle.keys.specs.Key.{key_of}
 use Rattle.input.specs.Input.{Tables, Reply, on, call, with_header, for_predicate, from_predicate, for_constant, from_constant, for_expression, from_expression, for_value, from_value, for_interval, from_interval, for_rule, from_rule}
 use Rattle.input.specs.Input as input
 use Rattle.lattice.specs.Value.{value_of}
-use Rattle.numeric.specs.Reading.{Reading, given}
-use Rattle.numeric.specs.Reading as reading
+use Rattle.numeric.specs.Reading.{Reading}
 use Rattle.numeric.specs.Answers.{reads, kind, status}
 use Rattle.numeric.specs.Step.{Call, State, Stepped, stepped, on_store, from_run, on_run, on_reading, step, Event, event, play, header_of, fresh}
 use Rattle.numeric.specs.Step as calls
