@@ -145,7 +145,7 @@ impl Bound {
         interval: Interval::Bottom,
     };
 
-    // Numbers of an interval.
+    // Numbers of an interval. A constructor by name, as 01 has it: a `From` reads no plainer where it is called.
     pub fn numeric(interval: Interval) -> Bound
         ensures { result ≡ numeric_of interval }
     {
@@ -155,7 +155,7 @@ impl Bound {
         }
     }
 
-    // One constant.
+    // One constant, by name for the same reason.
     pub fn constant(constant: Constant) -> Bound
         ensures { result ≡ constant_of constant }
     {

@@ -166,6 +166,7 @@ pub fn put_node(cells: &mut [u64], id: usize, node: Node, nesting: u64)
     put_word(cells, at + 4, nesting);
 }
 
+// Any number reads as a reason: no `TryFrom`, since it cannot fail.
 fn widening_of(number: u64) -> Widening
     ensures { result ≡ widening_of number }
 {

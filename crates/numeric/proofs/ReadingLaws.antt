@@ -6,28 +6,24 @@ use mathlib.Core.Bool.{Bool, true, false, cond, ◌&&◌}
 use mathlib.Core.List.{List, [], ◌∷◌, ◌++◌, append-nil}
 use borrow.Author.Tests.{lt-ltb, le-ltb, ltb-true, ltb-false, eqb-true, eq-eqb, ne_eqb}
 use lib.Dec.{eqb, ltb}
-use lib.IntN.{ℤ}
 use lib.ListN.{length, get_or, length-append, get_or-append, get_or-eq_default}
 use lib.Seq.{get_or_at}
 use Rattle.integers.proofs.Tests.{and_left}
 use Rattle.limits.specs.declared.Refusal.{Refusal}
-use Rattle.limits.specs.declared.Refusal.TheVariants.{Shape, Missing, MissingSlot}
+use Rattle.limits.specs.declared.Refusal.TheVariants.{Shape, Missing}
 use Rattle.limits.specs.Refusal.{told}
 use Rattle.interval.specs.declared.Integrality.{Integrality}
 use Rattle.interval.specs.declared.Interval.{Interval}
-use Rattle.interval.specs.declared.Bound.{Bound}
 use Rattle.cells.specs.Cells.{of_cell}
 use Rattle.keys.specs.Key.{name_at, kind_at, payload_at}
-use Rattle.lattice.specs.Value.{value_of}
-use Rattle.rows.specs.Row.{integrality_of, interval_of, value_at}
-use Rattle.rows.specs.Row as rows
+use Rattle.rows.specs.Row.{integrality_of, interval_of}
 use Rattle.results.specs.Result.{place}
 use Rattle.store.specs.declared.Phase.{Phase}
 use Rattle.store.specs.declared.Phase.TheVariants.{Absent, Open, Completed, Stopped}
 use Rattle.store.specs.declared.Store.{Store}
 use Rattle.rules.specs.Rule.{row}
 use Rattle.rules.specs.Read.{slots_at}
-use Rattle.numeric.specs.Reading.{Reading, given, refused, in_phase, reading, there, contexts_of, nth, recorded, bound_at, Kind, number, name, large, kind_of, Status, status_in, name_of, argument_reading, context_count_reading, context_reading, slot_reading, key_reading, name_reading, status_reading}
+use Rattle.numeric.specs.Reading.{Reading, given, refused, in_phase, reading, there, contexts_of, nth, bound_at, name_of}
 use Rattle.numeric.specs.Answers.{permits, reads}
 use Rattle.std.proofs.Common.{Result, Ok, Err}
 use Rattle.std.specs.Prelude.{IsErrAnd}
@@ -56,8 +52,8 @@ module _ {A : Type 0} (s : Store) (sized : Bool) (x : Reading A) {r : Result (Un
 
 -- the exit of a `?`
 module _ {A B : Type 0} {y : Reading B} where
-  pub not_read : (f : A → B) (x : Result A Refusal) {e : Refusal} → IsErrAnd x (λ d. d ≡ e) → refused (told e) ≡ y → reads f x ≡ y
-  not_read f x h k = let p = err_from_is_err_and x h in rw (p.1, p.2) k
+  pub not_read : (f : A → B) (x : Result A Refusal) (e : Refusal) → IsErrAnd x (λ d. d ≡ e) → refused (told e) ≡ y → reads f x ≡ y
+  not_read f x e h k = let p = err_from_is_err_and x h in rw (p.1, p.2) k
 
 -- ---- what exists
 

@@ -137,6 +137,12 @@ fn place(rule: usize, slot: usize, after: bool) -> usize
     if after { at + 4 } else { at }
 }
 
+fn is_slots_sized(rules: usize, slots: usize) -> bool
+    ensures { result ≡ eqb rules (row * 256) && eqb slots 32768 }
+{
+    rules == rules::ROW * 256 && slots == results::BOUNDS
+}
+
 // The bound of a rule's slot, before guards or after them.
 #[tactic(auto, unfolding(crate::specs::Reading::slot_reading))]
 pub fn slot(
@@ -149,8 +155,7 @@ pub fn slot(
 ) -> Result<Bound, Refusal>
     ensures { reads (λ b. b) result ≡ slot_reading store.now rules.now slots.now rule slot after }
 {
-    let sized = rules.len() == rules::ROW * 256 && slots.len() == results::BOUNDS;
-    permit(sized, store.phase)?;
+    permit(is_slots_sized(rules.len(), slots.len()), store.phase)?;
     if store.counts.rules as u64 <= rule {
         return Err(Refusal::Missing);
     }
@@ -192,6 +197,12 @@ fn name_of<'a>(names: &'a [u8], constants: &[u32], id: usize) -> &'a [u8]
     keys::name_at(names, id, keys::payload_at(constants, id) as usize)
 }
 
+fn is_names_sized(names: usize, constants: usize) -> bool
+    ensures { result ≡ eqb names 65536 && eqb constants 2048 }
+{
+    names == 65536 && constants == 2048
+}
+
 // The name of a constant, a part of the lent name store: empty where it has none that is retained.
 #[tactic(auto, unfolding(crate::specs::Reading::name_reading))]
 pub fn name<'a>(
@@ -202,8 +213,7 @@ pub fn name<'a>(
 ) -> Result<&'a [u8], Refusal>
     ensures { reads (λ p. p.now) result ≡ name_reading store.now names.now constants.now constant }
 {
-    let sized = names.len() == 65536 && constants.len() == 2048;
-    permit(sized, store.phase)?;
+    permit(is_names_sized(names.len(), constants.len()), store.phase)?;
     if store.counts.constants as u64 <= constant {
         return Err(Refusal::Missing);
     }

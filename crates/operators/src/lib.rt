@@ -91,7 +91,7 @@ pub fn span(low: Interval, high: Interval) -> Interval
     Interval::checked(i64::from(from), i64::from(to))
 }
 
-// The number of an expression that is a constant. Ids of constants have 16 bits.
+// The number of an expression that is a constant. Ids of constants have 16 bits: `%`, since a cast alone must fit.
 #[tactic(auto, unfolding(crate::specs::Literal::literal))]
 pub fn literal_of(nodes: &[u64], constants: &[u32], id: u64) -> Option<i32>
     ensures { result ≡ literal nodes.now constants.now id }

@@ -63,7 +63,7 @@ fn reason_of(cell: u32) -> Option<Widening>
     }
 }
 
-// The ids of the row that begins at `at`.
+// The ids of the row that begins at `at`. `%` with a cast, since a cast alone must fit and no `From` cuts a number.
 fn ids_at(cells: &[u32], at: usize) -> [u16; 16]
     requires { at ≤ length cells.now }
     ensures { result ≡ ids_of (padded row (drop at cells.now)) }

@@ -135,7 +135,7 @@ trait Item: Copy {
     ghost wide: { (x : Self) → length (item_cells x) ≡ WIDTH };
 }
 
-// One cell: 32 bits of a number.
+// One cell: 32 bits of a number. `%`, since a cast alone must fit.
 fn put_number(cells: &mut [u32], at: usize, number: u64)
     ensures { cells.new ≡ set cells.old at (cell number) }
 {
@@ -272,6 +272,7 @@ fn reach(len: usize, width: usize, j: usize) -> usize
     width.saturating_mul(j).min(len)
 }
 
+// Any number reads as a function and as a relation, the last one where there is no other: no `TryFrom`, since neither can fail.
 fn function_of(number: u32) -> AggregateFunction
     ensures { result ≡ function_of number }
 {
@@ -391,7 +392,8 @@ pub fn head_count(cells: &[u32], id: usize) -> usize
     at_most(cells::cell_at(cells, at + 5), 16)
 }
 
-// The j-th binding, guard and head; one beyond its count is what stands there.
+// The j-th binding, guard and head; one beyond its count is what stands there. Each reads its cells itself: that is one expression,
+// and a shared reader would be no plainer.
 pub fn binding_at(cells: &[u32], id: usize, j: usize) -> Binding
     ensures { result ≡ binding_at cells.now id j }
 {

@@ -72,6 +72,7 @@ pub fn clear_growth(cells: &mut [u32], count: usize)
 }
 
 // The greatest threshold that is not above `low`, sought from the top; a unit of work for each that is looked at.
+// This side pays as it goes and the other by place, so one function for both would be no plainer.
 fn threshold_below(thresholds: &[i32], low: i32, meter: &mut Meter) -> Result<i32, Stop>
     ensures { answered result meter.new ≡ below thresholds.now low meter.old }
 {
@@ -130,7 +131,7 @@ fn widen_low(
     Ok(Side { end, grown })
 }
 
-// The high side.
+// The high side. Beside the low one, since a side as a parameter reads no plainer: each comparison would ask which it is.
 fn widen_high(
     thresholds: &[i32],
     old: i32,

@@ -1,9 +1,8 @@
 -- `numeric::argument` meets its contract.
-use mathlib.Core.Path.{◌≡◌, refl, sym, ap, ◌∙◌}
 use Rattle.numeric.specs.Reading.{argument_reading}
-use Rattle.numeric.proofs.ReadingLaws.{turned_down, permitted, not_read, missing, stands}
+use Rattle.numeric.proofs.ReadingLaws.{turned_down, not_read}
 use Rattle.numeric.proofs.argument.Goals as goal
 
 pub returns-in_err-permit : goal.returns-in_err-permit
 unfolding argument_reading
-returns-in_err-permit c = not_read _ _ c.from_residual.ensures.1 (turned_down c.args.store.now _ _ c.permit.ensures c.in_err-permit.was)
+returns-in_err-permit c = not_read _ _ _ c.from_residual.ensures.1 (turned_down c.args.store.now _ _ c.permit.ensures c.in_err-permit.was)

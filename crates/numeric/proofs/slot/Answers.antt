@@ -1,9 +1,18 @@
 -- `numeric::slot` meets its contract.
-use mathlib.Core.Path.{◌≡◌, refl, sym, ap, ◌∙◌}
+use mathlib.Core.Path.{sym, ◌∙◌}
+use lib.ListN.{length}
 use Rattle.numeric.specs.Reading.{slot_reading}
-use Rattle.numeric.proofs.ReadingLaws.{turned_down, permitted, not_read, missing, stands}
+use Rattle.numeric.proofs.ReadingLaws.{in_table, place_fits, turned_down, not_read}
 use Rattle.numeric.proofs.slot.Goals as goal
 
 pub returns-in_err-permit : goal.returns-in_err-permit
 unfolding slot_reading
-returns-in_err-permit c = not_read _ _ c.from_residual.ensures.1 (turned_down c.args.store.now _ _ c.permit.ensures c.in_err-permit.was)
+returns-in_err-permit c = not_read _ _ _ c.from_residual.ensures.1 (turned_down c.args.store.now _ _ (rw c.is_slots_sized.ensures at c.permit.ensures) c.in_err-permit.was)
+
+pub place-requires : goal.place-requires
+place-requires c = in_table c.args.rules.now c.args.rule c.args.slot (length c.args.slots.now) c.args.store.now.phase (sym (rw c.is_slots_sized.ensures at c.permit.ensures) ∙ c.in_ok-permit.was) (rw c.slots_at.ensures at c.if-slots_at-slot.false)
+
+pub bound_at-requires : goal.bound_at-requires
+bound_at-requires c =
+    let t = in_table c.args.rules.now c.args.rule c.args.slot (length c.args.slots.now) c.args.store.now.phase (sym (rw c.is_slots_sized.ensures at c.permit.ensures) ∙ c.in_ok-permit.was) (rw c.slots_at.ensures at c.if-slots_at-slot.false) in
+    place_fits c.args.rule c.args.slot c.args.after c.place.ensures t.0 t.1
