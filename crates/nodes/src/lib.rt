@@ -119,7 +119,7 @@ fn word_at(cells: &[u64], i: usize) -> u64
     cells.get(i).copied().unwrap_or(0)
 }
 
-// A cell beyond the table is not written.
+// A cell beyond the table is not written. An index, since std's `get_mut` does not say what the slice ends as.
 fn put_word(cells: &mut [u64], i: usize, word: u64)
     ensures { cells.new ≡ set cells.old i word }
 {

@@ -1,23 +1,22 @@
 -- The lines of the report from the words put into them, over plain variables, and what a lent buffer then holds.
-use Prim.Native.Nat.{ℕ, ◌+◌, ◌≤◌, ◌<◌}
+use Prim.Native.Nat.{ℕ, ◌+◌, ◌≤◌}
 use native.Mathlib.Omega.{arith}
-use mathlib.Core.Path.{◌≡◌, refl, sym}
+use mathlib.Core.Path.{◌≡◌, refl, sym, ◌∙◌}
 use mathlib.Core.Bool.{Bool}
 use mathlib.Core.List.{List, [], ◌∷◌, ◌++◌, append-nil}
 use borrow.Author.Tests.{eq-eqb, ne_eqb}
-use lib.ListN.{length, set, get_or, drop, drop_of_length-le}
-use lib.Seq.{drop-cons}
-use native.Mathlib.Numerals.{add-one}
+use lib.ListN.{length, drop}
+use lib.Seq.{sets-eq}
 use Rattle.limits.specs.declared.Stop.{Stop}
 use Rattle.limits.specs.declared.Refusal.{Refusal}
-use Rattle.limits.specs.declared.Refusal.TheVariants.{Limit, Shape}
+use Rattle.limits.specs.declared.Refusal.TheVariants.{Closed, Shape, Full, Limit, Missing, Descending, MissingSlot}
 use Rattle.limits.specs.Refusal.{told}
 use Rattle.limits.specs.Charge.{observed}
 use Rattle.lattice.specs.Value.{value_of}
 use Rattle.store.specs.declared.Store.{Store}
 use Rattle.text.specs.Text.{decimal, spaced, spaced_words}
 use Rattle.text.specs.Answers.{Puts}
-use Rattle.text.proofs.Putting.{Leads, leads_more, leads_all, puts_then, puts_same}
+use Rattle.text.proofs.Putting.{Leads, leads_all, puts_then, puts_same}
 use Rattle.text.proofs.Words.{spaced_words_lem}
 use Rattle.numeric.specs.declared.Ended.{Ended}
 use Rattle.numeric.specs.Reading.{Reading, given, refused, argument_reading, slot_reading, status_reading}
@@ -29,16 +28,10 @@ use Rattle.interval.specs.declared.Bound.{Bound}
 use Rattle.lattice.specs.declared.Abstract.{Abstract}
 use Rattle.report.specs.Line.{Lined, told_words, status_text, argument_text, slot_text, statistics_text, refusal_text, line_of, status_line, argument_line, slot_line, statistics_line, refusal_line, lined, on_buffer, written}
 
--- ---- a head word, byte by byte
+-- ---- a head word
 
-module _ {t : List ℕ} {a : ℕ} {l : List ℕ} (w : List ℕ) (i : ℕ) {m : List ℕ} (p : Leads t a l (drop i w) i m) where
-  pub word_byte : i < length w → Leads t a l (drop (i + 1) w) (i + 1) (set m i (get_or w i 0))
-  word_byte h =
-      let d : drop i w ≡ (get_or w i 0 ∷ []) ++ drop (i + 1) w = rw (drop-cons w i 0 h, add-one) in
-      leads_more (get_or w i 0 ∷ []) (drop (i + 1) w) (rw d at p) (record { place = refl; line = refl })
-
-  pub word_end : length w ≤ i → Puts t a l i m
-  word_end h = leads_all p (puts_same (sym (drop_of_length-le w h)) (record { place = omega arith; line = refl }))
+pub word_first : (w l : List ℕ) → length w ≤ length l → Puts w 0 l (length w) (w ++ drop (length w) l)
+word_first w l h = record { place = omega arith; line = let e : 0 + length w ≡ length w = omega arith in sym (sets-eq w l 0 (omega arith) ∙ rw e) }
 
 -- ---- the end of a line
 
@@ -56,17 +49,27 @@ byte_same e p = rw e at p
 
 -- ---- a refusal
 
-module _ {e : Refusal} {n a b : ℕ} {l m : List ℕ} where
-  -- one that carries no values
-  pub told_plain : {k : Refusal} → e ≡ k → (told k).values ≡ [] → n ≡ (told e).number → Puts (32 ∷ decimal n) a l b m → Puts (spaced_words (told_words (told e))) a l b m
-  unfolding spaced_words
-  told_plain h z g p = puts_same (rw (h, z, append-nil, ← h, g)) p
+-- one that carries no values
+pub told_plain : (e : Refusal) {n a b : ℕ} {l m : List ℕ} → (told e).values ≡ [] → n ≡ (told e).number → Puts (32 ∷ decimal n) a l b m → Puts (spaced_words (told_words (told e))) a l b m
+unfolding spaced_words
+told_plain e z g p = puts_same (rw (z, append-nil, g)) p
 
+module _ {e : Refusal} {n a b : ℕ} {l m : List ℕ} where
   pub told_limit : {s : Stop} {c d x : ℕ} {o p q : List ℕ} → e ≡ Limit s → n ≡ (told e).number →
       Puts (32 ∷ decimal n) a l b m → Puts (32 ∷ decimal s.limit) b m c o → Puts (32 ∷ []) c o d p → Puts (decimal (observed s)) d p x q →
       Puts (spaced_words (told_words (told e))) a l x q
   unfolding spaced_words
   told_limit h g u v w z = puts_same (rw (g, h, append-nil)) (puts_then u (puts_then v (puts_then w z)))
+
+-- only a limit carries values
+pub no_values : (e : Refusal) → ((s : Stop) → e ≡ Limit s → ⊥) → (told e).values ≡ []
+no_values Closed h = refl
+no_values Shape h = refl
+no_values Full h = refl
+no_values (Limit s) h = absurd (h s refl)
+no_values Missing h = refl
+no_values Descending h = refl
+no_values MissingSlot h = refl
 
 -- ---- in the lent buffer
 
@@ -107,5 +110,5 @@ module _ (s : Store) where
   slot_lined rules slots i k after h e = rw (← h, e)
 
 -- the exit of a `?`
-pub not_written : (x : Result ℕ Refusal) {e : Refusal} {b : List ℕ} {y : Lined} → IsErrAnd x (λ d. d ≡ e) → written (Err e) b ≡ y → written x b ≡ y
-not_written x h k = let p = err_from_is_err_and x h in rw (p.1, p.2) k
+pub not_written : (x : Result ℕ Refusal) (e : Refusal) {b : List ℕ} {y : Lined} → IsErrAnd x (λ d. d ≡ e) → written (Err e) b ≡ y → written x b ≡ y
+not_written x e h k = let p = err_from_is_err_and x h in rw (p.1, p.2) k
