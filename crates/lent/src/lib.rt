@@ -1,4 +1,4 @@
-//! The thin layer that changes lent counts in place (01, "Form by location"): each function has a by-value one make the new count, and stores it.
+//! The thin layer that changes lent counts in place (01, "Form by location"): each function works the new count out by value, as the paper has it, and stores it.
 #![tactic(auto)]
 
 ghost use Rattle.std.specs.Prelude.{◌≡◌};

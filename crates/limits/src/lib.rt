@@ -1,5 +1,5 @@
 //! Limits and counts (limits.rs, and `Budget` of numeric.rs): what a call may charge, what it has charged, and what it is
-//! turned down with. Counts go in by value and come back beside the outcome; no count ever wraps.
+//! turned down with. Counts are charged in place, on a meter or a budget; no count ever wraps.
 #![tactic(auto)]
 
 ghost use Rattle.std.specs.Prelude.{◌≡◌, ◌-◌};

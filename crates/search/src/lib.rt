@@ -1,4 +1,4 @@
-//! Binary search over a table in order, one unit of work for each item that is looked at.
+//! Binary search over a table in order, one unit of work for each item that is looked at, and an insertion at the place that it finds.
 #![tactic(auto)]
 
 ghost use Rattle.std.specs.Prelude.{◌≡◌, ℕ, ◌<◌};

@@ -14,7 +14,6 @@ use Rattle.rows.specs.Row.{row, value_at}
 use Rattle.rows.specs.WellFormed.{WellFormed}
 use Rattle.keys.specs.Key.{Key}
 use Rattle.rules.specs.declared.Head.{Head}
-use Rattle.rules.specs.Rule.{bindings_of, guards_of}
 use Rattle.rules.specs.Read.{slots_at, bindings_at, guards_at, heads_at}
 use Rattle.producers.specs.Producer.{Scope, scope}
 use Rattle.producers.proofs.Scoped.{BindingIn, GuardIn, HeadIn, RuleIn}

@@ -6,7 +6,7 @@ use mathlib.Core.Path.{◌≡◌, refl, sym, ap, subst, ◌∙◌}
 use mathlib.Core.Logic.{◌⊎◌, inl, inr, ⊎_elim}
 use mathlib.Core.Bool.{◌&&◌}
 use mathlib.Core.List.Memᴰ
-use mathlib.Core.List.{List, [], ◌∷◌, ◌++◌, map, map-map, Memᴰ}
+use mathlib.Core.List.{List, [], ◌∷◌, ◌++◌, map, Memᴰ}
 use mathlib.Core.Option.{Option, some, none}
 use lib.Dec.{leb, ltb, eqb}
 use lib.IntN.{ℤ}
@@ -46,7 +46,6 @@ use Rattle.store.proofs.Frame.{spends_work, pays}
 use Rattle.thresholds.specs.Thresholds.{entry, around}
 use Rattle.thresholds.proofs.Numbers.{around_numbers}
 use Rattle.rules.specs.declared.Rule.{Rule}
-use Rattle.rules.specs.Rule.{bindings_of, guards_of}
 use Rattle.rules.specs.Read.{bindings_at, guards_at, heads_at}
 use Rattle.rules.proofs.RuleLaws.{Row}
 use Rattle.seeds.specs.Seed.{seed_ends, seed_value_call, seed_interval_call}
