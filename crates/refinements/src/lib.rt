@@ -96,7 +96,14 @@ pub fn narrow(
     ensures { made result max_work max_entries ≡ narrow constants.now restriction (value_of value) (meter work max_work entries max_entries) }
 {
     if is_integer(value) {
-        let new = value.refine_counted(restriction, constants, work, max_work, entries, max_entries);
+        let new = value.refine_counted(
+            restriction,
+            constants,
+            work,
+            max_work,
+            entries,
+            max_entries,
+        );
         let outcome = new.outcome;
         let narrowed = new.value;
         let left = limits::release(new.entries, rows::entries_of(value));

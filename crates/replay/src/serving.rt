@@ -48,8 +48,11 @@ impl Session {
             6..=7 => self.constant(call)?,
             10..=15 => {
                 let value = parts::expression(&mut self.reader, call)?;
-                let answer =
-                    expressions::expression(&mut self.store, value, &mut self.tables.nodes);
+                let answer = expressions::expression(
+                    &mut self.store,
+                    value,
+                    &mut self.tables.nodes,
+                );
                 self.writer.answered(answer);
             }
             20..=21 => self.seed(call)?,
@@ -194,8 +197,12 @@ impl Session {
 
     fn argument_line(&mut self, argument: u64) {
         let mut line = [0; report::LINE];
-        let written =
-            report::argument_line(&self.store, &self.tables.arguments, argument, &mut line);
+        let written = report::argument_line(
+            &self.store,
+            &self.tables.arguments,
+            argument,
+            &mut line,
+        );
         self.writer.line(written, &line);
     }
 
