@@ -15,14 +15,6 @@ use Rattle.rounds.specs.declared.Ran.TheVariants as ran
 use Rattle.engine.specs.Run.{Start, start, Beginning, beginning, Progress, progress}
 use Rattle.engine.specs.Call.{Tables, tables, concluded}
 
-abbrev pub started : Billed → List ℕ → List ℕ → Run Stop Start (Unit {0})
-started (Paid b) current growth = going tt (start b current growth)
-started (billed.Stopped e b) current growth = stopped e (start b current growth)
-
-abbrev pub begun : Entered → List ℤ → List ℕ → List ℕ → Run Stop Beginning (Unit {0})
-begun (entered.Done b n) table current growth = going tt (beginning (entry b n table) current growth)
-begun (entered.Stopped e b n) table current growth = stopped e (beginning (entry b n table) current growth)
-
 abbrev pub progressed : Ran → List ℕ → List ℕ → List ℕ → Run Stop Progress (Unit {0})
 progressed (ran.Done b c) current growth bounds = going tt (progress b c current growth bounds)
 progressed (ran.Stopped e b c) current growth bounds = stopped e (progress b c current growth bounds)
