@@ -22,9 +22,9 @@ use Rattle.rows.specs.Row.{entries_of}
 use Rattle.rules.specs.declared.AggregateFunction.{AggregateFunction}
 use Rattle.rules.specs.declared.Binding.{Binding}
 use Rattle.rules.specs.declared.Binding.TheVariants.{Positive, Assign, Range, Aggregate}
-use Rattle.slots.specs.declared.Counted.{Counted}
-use Rattle.slots.specs.declared.Counted.TheVariants.{Going}
-use Rattle.slots.specs.declared.Counted.TheVariants as counts
+use Rattle.slots.specs.declared.bridge.Counted.{Counted}
+use Rattle.slots.specs.declared.bridge.Counted.TheVariants.{Going}
+use Rattle.slots.specs.declared.bridge.Counted.TheVariants as counts
 use Rattle.slots.specs.Slots.{Slots, slots, total, holding_rows, meet_owned, each, tops, meet_argument, mark_dependent}
 use Rattle.slots.specs.Answers.{counted, paid, Pays}
 use Rattle.evaluation.specs.declared.Pair.{Pair}

@@ -123,7 +123,7 @@ fn meet_made(
     let outcome = value.outcome;
     match outcome {
         Outcome::Stopped(stop) => Counted::Stopped(stop, value.work, value.entries),
-        Outcome::Done => slots::meet_owned(
+        Outcome::Done => slots::meet_owned_counted(
             cells,
             slot,
             value.value,
@@ -184,7 +184,7 @@ fn meet_binding(
             );
             meet_made(cells, slot as usize, made, constants, max_work, max_entries)
         }
-        Binding::Aggregate { slot, function } => slots::meet_owned(
+        Binding::Aggregate { slot, function } => slots::meet_owned_counted(
             cells,
             slot as usize,
             aggregate(function),
@@ -265,7 +265,7 @@ fn bind_rows(
 ) -> Counted
     ensures { counted result cells.new max_work max_entries ≡ passes (input nodes.now constants.now width) arguments.now (bindings_at rules.now id) (slots (meter work max_work entries max_entries) cells.old) }
 {
-    match slots::meet_arguments(
+    match slots::meet_arguments_counted(
         cells,
         rules,
         id,
@@ -277,7 +277,9 @@ fn bind_rows(
         max_entries,
     ) {
         Counted::Stopped(stop, w, e) => Counted::Stopped(stop, w, e),
-        Counted::Going(w, e) => match slots::mark_dependents(cells, rules, id, w, max_work) {
+        Counted::Going(w, e) => match slots::mark_dependents_counted(
+            cells, rules, id, w, max_work,
+        ) {
             Charged::Stopped(stop, now) => Counted::Stopped(stop, now, e),
             Charged::Paid(now) => meet_bindings(
                 cells,
@@ -312,7 +314,7 @@ pub fn bind(
     ensures { counted result cells.new max_work max_entries ≡ bind (input nodes.now constants.now width) arguments.now (slots_at rules.now id) (bindings_at rules.now id) (slots (meter work max_work entries max_entries) cells.old) }
 {
     let count = rules::slots_at(rules, id) as usize;
-    match slots::fill_tops(cells, count, work, max_work) {
+    match slots::fill_tops_counted(cells, count, work, max_work) {
         Charged::Stopped(stop, now) => Counted::Stopped(stop, now, entries),
         Charged::Paid(now) => match bind_rows(
             cells,
@@ -328,7 +330,7 @@ pub fn bind(
             max_entries,
         ) {
             Counted::Stopped(stop, w, e) => {
-                Counted::Stopped(stop, w, slots::drop_rows(cells, count, e))
+                Counted::Stopped(stop, w, slots::drop_rows_counted(cells, count, e))
             }
             Counted::Going(w, e) => Counted::Going(w, e),
         },

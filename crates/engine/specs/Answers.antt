@@ -10,8 +10,6 @@ use Rattle.thresholds.specs.declared.Entered.{Entered}
 use Rattle.thresholds.specs.declared.Entered.TheVariants as entered
 use Rattle.thresholds.specs.Thresholds.{entry}
 use Rattle.store.specs.declared.Store.{Store}
-use Rattle.store.specs.declared.Done.{Done}
-use Rattle.store.specs.declared.Done.TheVariants.{Ok, Refused}
 use Rattle.rounds.specs.declared.Ran.{Ran}
 use Rattle.rounds.specs.declared.Ran.TheVariants as ran
 use Rattle.engine.specs.Run.{Start, start, Beginning, beginning, Progress, progress}

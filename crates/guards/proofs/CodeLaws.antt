@@ -33,9 +33,9 @@ use Rattle.lists.specs.declared.bridge.Verdict.{Verdict}
 use Rattle.lists.specs.declared.bridge.Verdict.TheVariants.{Yes, No}
 use Rattle.lists.specs.declared.bridge.Verdict.TheVariants as verdict
 use Rattle.lists.specs.Answers.{told, Answers}
-use Rattle.slots.specs.declared.Counted.{Counted}
-use Rattle.slots.specs.declared.Counted.TheVariants.{Going}
-use Rattle.slots.specs.declared.Counted.TheVariants as counts
+use Rattle.slots.specs.declared.bridge.Counted.{Counted}
+use Rattle.slots.specs.declared.bridge.Counted.TheVariants.{Going}
+use Rattle.slots.specs.declared.bridge.Counted.TheVariants as counts
 use Rattle.slots.specs.Slots.{Slots, slots, total, refine_into, copies}
 use Rattle.slots.specs.Answers.{counted}
 use Rattle.refinements.specs.declared.Noted.{Noted}

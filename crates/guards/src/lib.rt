@@ -45,7 +45,7 @@ fn narrow_slot(
     let Some(affine) = affine else {
         return Counted::Going(work, entries);
     };
-    slots::refine_into(
+    slots::refine_into_counted(
         produced,
         affine.slot as usize,
         affine.solve(restriction),
@@ -338,7 +338,7 @@ fn member(
     }
     let low = a.interval;
     let high = b.interval;
-    match slots::refine_into(
+    match slots::refine_into_counted(
         produced,
         slot,
         operators::span(low, high),
@@ -529,7 +529,7 @@ pub fn guard(
     ensures { Refines (guard (input nodes.now constants.now width) domains.now (slots_at rules.now id) (guards_at rules.now id)) (meter work max_work entries max_entries) produced.old refinements.old result produced.new refinements.new }
 {
     let count = rules::slots_at(rules, id) as usize;
-    match slots::copy_rows(
+    match slots::copy_rows_counted(
         domains,
         produced,
         count,
@@ -553,7 +553,7 @@ pub fn guard(
             max_entries,
         ) {
             Refined::Stopped(stop, now, live) => {
-                Refined::Stopped(stop, now, slots::drop_rows(produced, count, live))
+                Refined::Stopped(stop, now, slots::drop_rows_counted(produced, count, live))
             }
             Refined::Done(n, now, live) => Refined::Done(n, now, live),
         },

@@ -27,12 +27,12 @@ use Rattle.interval.specs.declared.Bound.{Bound}
 use Rattle.lattice.specs.Value.{Value}
 use Rattle.rows.specs.Row.{bound_cells, value_at}
 use Rattle.store.specs.Store.{Context}
-use Rattle.slots.specs.declared.Counted.{Counted}
-use Rattle.slots.specs.declared.Counted.TheVariants.{Going}
-use Rattle.slots.specs.declared.Counted.TheVariants as counts
+use Rattle.slots.specs.declared.bridge.Counted.{Counted}
+use Rattle.slots.specs.declared.bridge.Counted.TheVariants.{Going}
+use Rattle.slots.specs.declared.bridge.Counted.TheVariants as counts
 use Rattle.slots.specs.Slots.{Slots, slots, total, step}
 use Rattle.slots.specs.Answers.{counted, paid, Pays}
-use Rattle.slots.proofs.CodeLaws.{Paying, pays_on}
+use Rattle.slots.proofs.Counts.{Paying, pays_on}
 use Rattle.evaluation.specs.Evaluation.{Input, input}
 use Rattle.rounds.specs.declared.Ran.{Ran}
 use Rattle.rounds.specs.declared.Ran.TheVariants as runs

@@ -3,7 +3,7 @@ use Rattle.std.specs.Prelude.{ℕ, ◌≡◌, List}
 use Rattle.limits.specs.declared.Stop.{Stop}
 use Rattle.limits.specs.declared.Charged.{Charged}
 use Rattle.limits.specs.Metered.{Run, going, stopped}
-use Rattle.slots.specs.declared.Counted.{Counted}
+use Rattle.slots.specs.declared.bridge.Counted.{Counted}
 use Rattle.slots.specs.Answers.{counted, paid}
 use Rattle.rounds.specs.declared.Ran.{Ran}
 use Rattle.rounds.specs.declared.Ran.TheVariants.{Done, Stopped}

@@ -33,12 +33,12 @@ use Rattle.rows.specs.Row.{entries_of, value_at, put}
 use Rattle.store.specs.Store.{Context}
 use Rattle.rules.specs.declared.Head.{Head}
 use Rattle.rules.specs.Read.{slots_at, context_at}
-use Rattle.slots.specs.declared.Counted.{Counted}
-use Rattle.slots.specs.declared.Counted.TheVariants.{Going}
-use Rattle.slots.specs.declared.Counted.TheVariants as counts
+use Rattle.slots.specs.declared.bridge.Counted.{Counted}
+use Rattle.slots.specs.declared.bridge.Counted.TheVariants.{Going}
+use Rattle.slots.specs.declared.bridge.Counted.TheVariants as counts
 use Rattle.slots.specs.Slots.{Slots, slots, total, paying, replace, step, copies}
 use Rattle.slots.specs.Answers.{counted}
-use Rattle.slots.proofs.CodeLaws.{settle_stopped, settle_done, replaced, step_on}
+use Rattle.slots.proofs.Counts.{settle_stopped, settle_done, replaced, step_on}
 use Rattle.evaluation.specs.Evaluation.{Input, input}
 use Rattle.guards.specs.declared.Refined.{Refined}
 use Rattle.guards.specs.declared.Refined.TheVariants as refined

@@ -7,7 +7,7 @@ use Rattle.limits.specs.declared.Billed.TheVariants.{Paid}
 use Rattle.limits.specs.declared.Billed.TheVariants as billed
 use Rattle.limits.specs.Metered.{Run, going, stopped, Metered, mapped}
 use Rattle.limits.specs.Meter.{meter_of, with_meter}
-use Rattle.slots.specs.declared.Counted.{Counted}
+use Rattle.slots.specs.declared.bridge.Counted.{Counted}
 use Rattle.slots.specs.Slots.{Slots, slots}
 use Rattle.slots.specs.Answers.{counted}
 use Rattle.rounds.specs.declared.Ran.{Ran}

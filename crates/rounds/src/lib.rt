@@ -81,12 +81,12 @@ pub fn drop_locals(counted: Counted, domains: &[u32], produced: &[u32], count: u
 {
     match counted {
         Counted::Stopped(stop, work, entries) => {
-            let live = slots::drop_rows(produced, count, entries);
-            Counted::Stopped(stop, work, slots::drop_rows(domains, count, live))
+            let live = slots::drop_rows_counted(produced, count, entries);
+            Counted::Stopped(stop, work, slots::drop_rows_counted(domains, count, live))
         }
         Counted::Going(work, entries) => {
-            let live = slots::drop_rows(produced, count, entries);
-            Counted::Going(work, slots::drop_rows(domains, count, live))
+            let live = slots::drop_rows_counted(produced, count, entries);
+            Counted::Going(work, slots::drop_rows_counted(domains, count, live))
         }
     }
 }
@@ -350,7 +350,7 @@ pub fn without_rows(budget: Budget, cells: &[u32], count: usize) -> Budget
     let statistics = budget.statistics;
     budget.with(
         Resource::ValueEntries,
-        slots::drop_rows(cells, count, statistics.entries),
+        slots::drop_rows_counted(cells, count, statistics.entries),
     )
 }
 
@@ -360,7 +360,7 @@ pub fn copy_in(budget: Budget, from: &[u32], to: &mut [u32], count: usize) -> Bi
 {
     let limits = budget.limits;
     let statistics = budget.statistics;
-    match slots::copy_rows(
+    match slots::copy_rows_counted(
         from,
         to,
         count,

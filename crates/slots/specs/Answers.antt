@@ -1,17 +1,18 @@
--- The code's answers with the lent table at exit, as what the monad gives: counts are numbers in the code and a meter here.
-use Rattle.std.specs.Prelude.{ℕ, ◌≡◌, List}
+-- For the crates above that still hand counts through as numbers: their code's answers with the lent table at exit, as what the monad gives.
+use Rattle.std.specs.Prelude.{ℕ, ◌≡◌, List, Result, Ok, Err}
 use Rattle.limits.specs.declared.Stop.{Stop}
 use Rattle.limits.specs.declared.Charged.{Charged}
 use Rattle.limits.specs.declared.Charged.TheVariants.{Paid}
 use Rattle.limits.specs.declared.Charged.TheVariants as charged
 use Rattle.limits.specs.Metered.{Run, going, stopped, Metered}
+use Rattle.limits.specs.declared.Meter.{Meter}
 use Rattle.limits.specs.Meter.{meter}
 use Rattle.lattice.specs.declared.bridge.Made.{Made}
 use Rattle.lattice.specs.Value.{Value}
 use Rattle.lattice.specs.Answers.{made}
-use Rattle.slots.specs.declared.Counted.{Counted}
-use Rattle.slots.specs.declared.Counted.TheVariants.{Going}
-use Rattle.slots.specs.declared.Counted.TheVariants as counts
+use Rattle.slots.specs.declared.bridge.Counted.{Counted}
+use Rattle.slots.specs.declared.bridge.Counted.TheVariants.{Going}
+use Rattle.slots.specs.declared.bridge.Counted.TheVariants as counts
 use Rattle.slots.specs.Slots.{Slots, slots, settled}
 
 abbrev pub counted : Counted → List ℕ → ℕ → ℕ → Run Stop Slots (Unit {0})
@@ -30,3 +31,13 @@ pub record Pays (m : Metered Stop Slots (Unit {0})) (work max_work : ℕ) (rows 
 -- what is made takes the place of the old value, whatever the limits are
 pub record Settles (slot : ℕ) (old : Value) (new : Made) (rows : List ℕ) (r : Counted) (rows' : List ℕ) : Type 0 where
   pub at : (mw me : ℕ) → counted r rows' mw me ≡ settled slot old rows (made new mw me)
+
+-- ---- the code's answer and the meter that it leaves, by the counts alone
+
+abbrev pub counted_of : Result (Unit {0}) Stop → Meter → Counted
+counted_of (Ok a) m = Going m.work m.entries
+counted_of (Err s) m = counts.Stopped s m.work m.entries
+
+abbrev pub paid_of : Result (Unit {0}) Stop → Meter → Charged
+paid_of (Ok a) m = Paid m.work
+paid_of (Err s) m = charged.Stopped s m.work

@@ -29,11 +29,8 @@ use Rattle.rows.specs.Row.{row, put}
 use Rattle.std.proofs.Common.{Some}
 use Rattle.store.specs.declared.Phase.TheVariants.{Open, Absent}
 use Rattle.store.specs.declared.Store.{Store}
-use Rattle.store.specs.declared.Done.{Done}
-use Rattle.store.specs.declared.Done.TheVariants.{Ok, Refused}
 use Rattle.store.specs.Store.{admits, with_budget, with_context, with_thresholds, with_predicate, empty, fresh_of}
 use Rattle.store.specs.Calls.{unless, charged, marks, entering, declared, bottoms, room_for, tables, predicate_call, context_call, work_call, first_of, arity_of, argument_call}
-use Rattle.store.specs.Answers.{done, on_marks}
 
 -- ---- a test that refuses
 

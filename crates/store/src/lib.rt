@@ -6,9 +6,8 @@ ghost use Rattle.std.specs.Prelude.{◌≡◌, ◌+◌, ◌≤◌, length};
 ghost use Rattle.limits.specs.Budget.{charge};
 ghost use Rattle.limits.specs.Metered.{answered};
 ghost use Rattle.limits.specs.Refusal.{replied};
-ghost use Rattle.store.specs.Store.{fresh_of, admits, with_budget, with_counts, with_predicate};
+ghost use Rattle.store.specs.Store.{fresh_of, admits};
 ghost use Rattle.store.specs.Calls.{charged, marks, entering, context_call, work_call, declared, bottoms, room_for, tables, predicate_call, argument_call};
-ghost use Rattle.store.specs.Answers.{done, on_marks};
 ghost use Rattle.thresholds.specs.Thresholds.{around};
 
 use lattice::Abstract;
@@ -43,20 +42,6 @@ pub struct Store {
     // The caller's context, if one is set.
     pub context: Option<u32>,
     pub phase: Phase,
-}
-
-// A call without an id.
-#[derive(Clone, Copy)]
-pub enum Done {
-    Ok(Store),
-    Refused(Refusal, Store),
-}
-
-// A call that answers an id.
-#[derive(Clone, Copy)]
-pub enum Answer {
-    Id(usize, Store),
-    Refused(Refusal, Store),
 }
 
 // The predicates that the table has rows for, and the positions that seeds has.
@@ -226,42 +211,5 @@ impl Store {
         self.counts.predicates += 1;
         self.counts.positions += arity as usize;
         Ok(id)
-    }
-
-    // The same header with another budget.
-    pub fn with_budget(self, budget: Budget) -> Store
-        ensures { result ≡ with_budget budget self }
-    {
-        Store { budget, ..self }
-    }
-
-    // The same header with other counts of rows.
-    pub fn with_counts(self, counts: Counts) -> Store
-        ensures { result ≡ with_counts counts self }
-    {
-        Store { counts, ..self }
-    }
-
-    // One charge of a call.
-    pub fn charge(self, resource: Resource, amount: u64) -> Done
-        ensures { done result ≡ charged (charge resource amount) self }
-    {
-        let mut store = self;
-        match store.pay(resource, amount) {
-            Ok(()) => Done::Ok(store),
-            Err(refusal) => Done::Refused(refusal, store),
-        }
-    }
-
-    // A number and its neighbours become thresholds; the call has tested that there is room for three more.
-    pub fn enter_around(self, value: i32, table: &mut [i32]) -> Done
-        requires { self.counts.thresholds + 3 ≤ length table.old }
-        ensures { on_marks result table.new ≡ entering (around value) (marks self table.old) }
-    {
-        let mut store = self;
-        match store.enter(value, table) {
-            Ok(()) => Done::Ok(store),
-            Err(refusal) => Done::Refused(refusal, store),
-        }
     }
 }

@@ -9,9 +9,9 @@ use Rattle.limits.specs.Meter.{meter}
 use Rattle.limits.proofs.Monad.{then_stop, then_on, through_on, through_stop}
 use Rattle.lattice.specs.Value.{Value}
 use Rattle.rules.specs.Read.{slots_at, bindings_at, guards_at}
-use Rattle.slots.specs.declared.Counted.{Counted}
-use Rattle.slots.specs.declared.Counted.TheVariants.{Going}
-use Rattle.slots.specs.declared.Counted.TheVariants as counts
+use Rattle.slots.specs.declared.bridge.Counted.{Counted}
+use Rattle.slots.specs.declared.bridge.Counted.TheVariants.{Going}
+use Rattle.slots.specs.declared.bridge.Counted.TheVariants as counts
 use Rattle.slots.specs.Slots.{Slots, slots, total}
 use Rattle.slots.specs.Answers.{counted}
 use Rattle.refinements.specs.Refinement.{refinements_of}

@@ -66,7 +66,7 @@ pub fn rule(
         ) {
             Refined::Stopped(stop, now, live) => {
                 let count = rules::slots_at(rules, id) as usize;
-                Refined::Stopped(stop, now, slots::drop_rows(domains, count, live))
+                Refined::Stopped(stop, now, slots::drop_rows_counted(domains, count, live))
             }
             Refined::Done(n, now, live) => Refined::Done(n, now, live),
         },

@@ -9,14 +9,14 @@ use Rattle.bindings.proofs.bind_rows.Goals as goal
 pub returns-in-Stopped : goal.returns-in-Stopped
 returns-in-Stopped c =
     let a = c.args in
-    first_stopped (input a.nodes.now a.constants.now a.width) a.arguments.now (bindings_at a.rules.now a.id) (slots (meter a.work a.max_work a.entries a.max_entries) a.cells.now) a.max_work a.max_entries c.meet_arguments.ensures c.in-Stopped.is
+    first_stopped (input a.nodes.now a.constants.now a.width) a.arguments.now (bindings_at a.rules.now a.id) (slots (meter a.work a.max_work a.entries a.max_entries) a.cells.now) a.max_work a.max_entries c.meet_arguments_counted.ensures c.in-Stopped.is
 
-pub returns-in-Stopped-mark_dependents : goal.returns-in-Stopped-mark_dependents
-returns-in-Stopped-mark_dependents c =
+pub returns-in-Stopped-mark_dependents_counted : goal.returns-in-Stopped-mark_dependents_counted
+returns-in-Stopped-mark_dependents_counted c =
     let a = c.args in
-    second_stopped (input a.nodes.now a.constants.now a.width) a.arguments.now (bindings_at a.rules.now a.id) (slots (meter a.work a.max_work a.entries a.max_entries) a.cells.now) a.max_work a.max_entries c.meet_arguments.ensures c.in-Going.is c.mark_dependents.ensures c.in-Stopped-mark_dependents.is
+    second_stopped (input a.nodes.now a.constants.now a.width) a.arguments.now (bindings_at a.rules.now a.id) (slots (meter a.work a.max_work a.entries a.max_entries) a.cells.now) a.max_work a.max_entries c.meet_arguments_counted.ensures c.in-Going.is c.mark_dependents_counted.ensures c.in-Stopped-mark_dependents_counted.is
 
 pub returns-in-Paid : goal.returns-in-Paid
 returns-in-Paid c =
     let a = c.args in
-    third_on (input a.nodes.now a.constants.now a.width) a.arguments.now (bindings_at a.rules.now a.id) (slots (meter a.work a.max_work a.entries a.max_entries) a.cells.now) a.max_work a.max_entries c.meet_arguments.ensures c.in-Going.is c.mark_dependents.ensures c.in-Paid.is c.meet_bindings.ensures
+    third_on (input a.nodes.now a.constants.now a.width) a.arguments.now (bindings_at a.rules.now a.id) (slots (meter a.work a.max_work a.entries a.max_entries) a.cells.now) a.max_work a.max_entries c.meet_arguments_counted.ensures c.in-Going.is c.mark_dependents_counted.ensures c.in-Paid.is c.meet_bindings.ensures

@@ -22,4 +22,4 @@ returns-in-Range c =
 pub returns-in-Aggregate : goal.returns-in-Aggregate
 returns-in-Aggregate c =
     let a = c.args in
-    aggregate_met (input a.nodes.now a.constants.now a.width) (meter a.work a.max_work a.entries a.max_entries) a.cells.now c.in-Aggregate.is c.aggregate.ensures c.meet_owned.ensures
+    aggregate_met (input a.nodes.now a.constants.now a.width) (meter a.work a.max_work a.entries a.max_entries) a.cells.now c.in-Aggregate.is c.aggregate.ensures c.meet_owned_counted.ensures

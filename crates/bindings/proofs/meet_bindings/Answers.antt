@@ -3,7 +3,7 @@ use native.Mathlib.Omega.{arith}
 use mathlib.Core.Path.{refl, ◌∙◌}
 use Rattle.limits.proofs.Onward.{onward_ends}
 use Rattle.rules.specs.Read.{binding_at}
-use Rattle.slots.proofs.CodeLaws.{each_begun, each_stops, each_goes, each_none, step_stopped, step_on}
+use Rattle.slots.proofs.Counts.{each_begun, each_stops, each_goes, each_none, step_stopped, step_on}
 use Rattle.evaluation.specs.Evaluation.{input}
 use Rattle.bindings.specs.Bindings.{meet_binding}
 use Rattle.bindings.proofs.meet_bindings.Goals as goal

@@ -10,4 +10,4 @@ returns-in-Stopped c =
 pub returns-in-Done : goal.returns-in-Done
 returns-in-Done c =
     let a = c.args in
-    made_met a.constants.now a.slot a.cells.now a.value a.max_work a.max_entries c.in-Done.is c.meet_owned.ensures
+    made_met a.constants.now a.slot a.cells.now a.value a.max_work a.max_entries c.in-Done.is c.meet_owned_counted.ensures

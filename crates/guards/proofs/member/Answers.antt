@@ -21,9 +21,9 @@ returns-then-not-is_integer-3 c =
 pub returns-in-Stopped : goal.returns-in-Stopped
 returns-in-Stopped c =
     let a = c.args in
-    member_stopped a.constants.now a.count a.slot (bare a.a) (bare a.b) a.work a.max_work a.entries a.max_entries a.produced.now c.bound_at-own.ensures c.is_integer.ensures c.if-not-is_integer.false c.is_integer-2.ensures c.if-not-is_integer-2.false c.is_integer-3.ensures c.if-not-is_integer-3.false c.span.ensures _ _ c.refine_into.ensures c.in-Stopped.is
+    member_stopped a.constants.now a.count a.slot (bare a.a) (bare a.b) a.work a.max_work a.entries a.max_entries a.produced.now c.bound_at-own.ensures c.is_integer.ensures c.if-not-is_integer.false c.is_integer-2.ensures c.if-not-is_integer-2.false c.is_integer-3.ensures c.if-not-is_integer-3.false c.span.ensures _ _ c.refine_into_counted.ensures c.in-Stopped.is
 
 pub returns-in-Going : goal.returns-in-Going
 returns-in-Going c =
     let a = c.args in
-    member_done a.constants.now a.count a.slot (bare a.a) (bare a.b) a.work a.max_work a.entries a.max_entries a.produced.now c.bound_at-own.ensures c.is_integer.ensures c.if-not-is_integer.false c.is_integer-2.ensures c.if-not-is_integer-2.false c.is_integer-3.ensures c.if-not-is_integer-3.false c.span.ensures _ _ c.refine_into.ensures c.in-Going.is
+    member_done a.constants.now a.count a.slot (bare a.a) (bare a.b) a.work a.max_work a.entries a.max_entries a.produced.now c.bound_at-own.ensures c.is_integer.ensures c.if-not-is_integer.false c.is_integer-2.ensures c.if-not-is_integer-2.false c.is_integer-3.ensures c.if-not-is_integer-3.false c.span.ensures _ _ c.refine_into_counted.ensures c.in-Going.is

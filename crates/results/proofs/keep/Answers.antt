@@ -1,7 +1,7 @@
 -- `results::keep` meets its contract.
 use native.Mathlib.Omega.{arith}
 use mathlib.Core.Path.{refl, ◌∙◌}
-use Rattle.slots.proofs.CodeLaws.{paying_stops, paying_goes, paying_ends, pays_stopped}
+use Rattle.slots.proofs.Counts.{paying_stops, paying_goes, paying_ends, pays_stopped}
 use Rattle.results.proofs.CodeLaws.{keep_begun, keep_next, keep_none, bound_kept}
 use Rattle.results.proofs.keep.Goals as goal
 

@@ -2,7 +2,7 @@
 use Prim.Native.Nat.{◌-◌}
 use mathlib.Core.Path.{◌≡◌}
 use lib.ListN.{length}
-use Rattle.slots.proofs.CodeLaws.{Paying}
+use Rattle.slots.proofs.Counts.{Paying}
 use Rattle.results.specs.Result.{keep}
 use Rattle.results.proofs.keep.Given as goal
 

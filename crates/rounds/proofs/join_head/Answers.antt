@@ -1,5 +1,5 @@
 -- `rounds::join_head` meets its contract.
-use Rattle.slots.proofs.CodeLaws.{step_stopped}
+use Rattle.slots.proofs.Counts.{step_stopped}
 use Rattle.evaluation.specs.Evaluation.{input}
 use Rattle.rounds.specs.Round.{join_head}
 use Rattle.rounds.proofs.CodeLaws.{head_stopped, head_made}

@@ -3,7 +3,7 @@ use native.Mathlib.Omega.{arith}
 use mathlib.Core.Path.{refl, ◌∙◌}
 use Rattle.limits.proofs.Onward.{onward_ends}
 use Rattle.rules.specs.Read.{head_at}
-use Rattle.slots.proofs.CodeLaws.{each_begun, each_stops, each_goes, each_none}
+use Rattle.slots.proofs.Counts.{each_begun, each_stops, each_goes, each_none}
 use Rattle.evaluation.specs.Evaluation.{input}
 use Rattle.rounds.specs.Round.{join_head}
 use Rattle.rounds.proofs.join_heads.Goals as goal

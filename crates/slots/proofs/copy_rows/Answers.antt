@@ -1,25 +1,18 @@
 -- `slots::copy_rows` meets its contract.
 use native.Mathlib.Omega.{arith}
 use mathlib.Core.Path.{refl, ◌∙◌}
-use Rattle.limits.proofs.Onward.{onward_ends}
-use Rattle.slots.proofs.CodeLaws.{copies_begun, copy_stopped, copy_made, copies_none}
+use Rattle.slots.proofs.CodeLaws.{copying, copied_all, copy_stopped, copy_made}
 use Rattle.slots.proofs.copy_rows.Goals as goal
 
 pub loop-k-init : goal.loop-k-init
-loop-k-init c = (refl, copies_begun _ _ _)
+loop-k-init c = (refl, copying _ _ _)
 
-pub returns-in-Stopped : goal.returns-in-Stopped
-returns-in-Stopped c =
-    let a = c.args in
-    copy_stopped a.domains.now c.loop-k.invariant.1 c.loop-k-test.true c.abstract_at-value.ensures c.copied_counted-copy.result c.copied_counted-copy.ensures c.in-Stopped.is c.drop_rows.ensures
-
-pub loop-k-smaller : goal.loop-k-smaller
-loop-k-smaller c = omega arith
+pub returns-in-Err : goal.returns-in-Err
+returns-in-Err c = copy_stopped c.args.domains.now _ _ c.loop-k.invariant.1 c.loop-k-test.true c.abstract_at.ensures c.in-Err.ensures c.drop_rows.ensures
 
 pub loop-k-preserved : goal.loop-k-preserved
 loop-k-preserved c =
-    let a = c.args in
-    (c.produced-1.given ∙ c.loop-k.invariant.0, copy_made a.domains.now c.loop-k.invariant.1 c.loop-k-test.true c.abstract_at-value.ensures c.copied_counted-copy.result c.copied_counted-copy.ensures c.in-Done.is c.put_abstract.ensures)
+    (c.put_abstract.auto.cells ∙ c.loop-k.invariant.0, copy_made c.args.domains.now _ _ c.loop-k.invariant.1 c.loop-k-test.true c.abstract_at.ensures c.in-Ok.ensures c.put_abstract.ensures)
 
 pub returns : goal.returns
-returns c = onward_ends c.loop-k.invariant.1 (copies_none c.args.domains.now (omega arith))
+returns c = copied_all c.args.domains.now _ _ c.loop-k.invariant.1 (omega arith)

@@ -1,19 +1,14 @@
 -- `slots::mark_dependent` meets its contract.
-use Rattle.slots.proofs.CodeLaws.{pays_stopped, pays_on, positive_marked, assign_marked, range_marked, aggregate_marked}
+use Rattle.limits.proofs.Answering.{exits}
+use Rattle.slots.specs.Slots.{mark_dependent}
+use Rattle.slots.proofs.CodeLaws.{step_stop, step_goes, positive_marked, other_marked}
 use Rattle.slots.proofs.mark_dependent.Goals as goal
 
-pub returns-in-Stopped : goal.returns-in-Stopped
-returns-in-Stopped c = pays_stopped _ c.charge.ensures c.in-Stopped.is
+pub returns-in_err-work : goal.returns-in_err-work
+returns-in_err-work c = exits c.from_residual.result c.from_residual.ensures.1 (step_stop (mark_dependent c.args.binding) _ _ c.in_err-work.ensures)
 
 pub returns-in-Positive : goal.returns-in-Positive
-returns-in-Positive c =
-    pays_on _ c.charge.ensures c.in-Paid.is (λ e me. positive_marked _ _ c.in-Positive.is c.depend.ensures)
+returns-in-Positive c = step_goes (mark_dependent c.args.binding) _ _ c.in_ok-work.ensures (positive_marked _ _ c.in-Positive.is c.depend.ensures)
 
-pub returns-in-Assign : goal.returns-in-Assign
-returns-in-Assign c = pays_on _ c.charge.ensures c.in-Paid.is (λ e me. assign_marked _ _ c.in-Assign.is)
-
-pub returns-in-Range : goal.returns-in-Range
-returns-in-Range c = pays_on _ c.charge.ensures c.in-Paid.is (λ e me. range_marked _ _ c.in-Range.is)
-
-pub returns-in-Aggregate : goal.returns-in-Aggregate
-returns-in-Aggregate c = pays_on _ c.charge.ensures c.in-Paid.is (λ e me. aggregate_marked _ _ c.in-Aggregate.is)
+pub returns-in_default : goal.returns-in_default
+returns-in_default c = step_goes (mark_dependent c.args.binding) _ _ c.in_ok-work.ensures (other_marked _ _ c.args.binding c.in_default.not-Positive)

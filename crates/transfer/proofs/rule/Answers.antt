@@ -11,7 +11,7 @@ returns-in-Stopped c =
 pub returns-in-Stopped-guard : goal.returns-in-Stopped-guard
 returns-in-Stopped-guard c =
     let a = c.args in
-    guards_stopped (input a.nodes.now a.constants.now a.width) a.rules.now a.id a.arguments.now a.work a.max_work a.entries a.max_entries a.domains.now a.produced.now a.refinements.now _ c.bind.ensures c.in-Going.is c.guard.ensures c.in-Stopped-guard.is c.slots_at-count.ensures c.drop_rows.ensures
+    guards_stopped (input a.nodes.now a.constants.now a.width) a.rules.now a.id a.arguments.now a.work a.max_work a.entries a.max_entries a.domains.now a.produced.now a.refinements.now _ c.bind.ensures c.in-Going.is c.guard.ensures c.in-Stopped-guard.is c.slots_at-count.ensures c.drop_rows_counted.ensures
 
 pub returns-in-Done : goal.returns-in-Done
 returns-in-Done c =
