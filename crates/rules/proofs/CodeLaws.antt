@@ -19,8 +19,8 @@ use Rattle.rules.specs.declared.Guard.{Guard}
 use Rattle.rules.specs.declared.Guard.TheVariants.{Compare, Membership}
 use Rattle.rules.specs.declared.Head.{Head}
 use Rattle.rules.specs.declared.Rule.{Rule}
-use Rattle.rules.specs.Rule.{binding_cells, guard_cells, head_cells, mark_of, number_of, fixed_cells, bindings_of, guards_of, heads_of, flat, cell, row, put_rule}
-use Rattle.rules.specs.Read.{binding_of, guard_of, head_of, context_of, slots_at, context_at, binding_count, guard_count, head_count, binding_at, guard_at, head_at}
+use Rattle.rules.specs.Rule.{binding_cells, guard_cells, head_cells, fixed_cells, bindings_of, guards_of, heads_of, flat, cell, row, put_rule}
+use Rattle.rules.specs.Read.{binding_of, guard_of, head_of, slots_at, context_at, binding_count, guard_count, head_count, binding_at, guard_at, head_at}
 
 -- ---- cells one after another
 
