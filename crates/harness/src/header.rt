@@ -3,7 +3,7 @@
 use limits::{Budget, Limits, Refusal, Resource, Statistics, Stop};
 use store::{Counts, Phase, Store};
 
-fn word(words: &[u64], i: usize) -> u64 {
+pub fn word(words: &[u64], i: usize) -> u64 {
     words.get(i).copied().unwrap_or(0)
 }
 

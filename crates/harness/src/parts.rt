@@ -1,16 +1,13 @@
-//! Expressions and rules of any words.
+//! Expressions and rules of any words. Words that are missing are 0.
+ghost use Rattle.std.specs.Prelude.{◌<◌};
+
+use crate::header::word;
 use nodes::Expression;
-use rules::{Binding, Guard, Head, Lengths, Rule};
+use rules::{AggregateFunction, Binding, Guard, Head, Lengths, Relation, Rule};
+use std::array;
 
 pub fn low(number: u64) -> u32 {
     (number % 4294967296) as u32
-}
-
-fn word(words: &[u64], i: usize) -> u64 {
-    if i < words.len() {
-        return words[i];
-    }
-    0
 }
 
 pub fn expression(kind: u64, a: u64, b: u64, c: u64) -> Expression {
@@ -24,100 +21,59 @@ pub fn expression(kind: u64, a: u64, b: u64, c: u64) -> Expression {
     }
 }
 
-fn binding(kind: u64, slot: u64, a: u64, b: u64) -> Binding {
-    match kind {
+// The i-th binding: four words, from the sixth word on.
+fn binding(words: &[u64], i: usize) -> Binding
+    requires { i < 32 }
+{
+    let at = 5 + 4 * i;
+    let slot = word(words, at + 1);
+    let a = word(words, at + 2);
+    match word(words, at) {
         0 => Binding::Positive { slot, argument: a },
         1 => Binding::Assign { slot, value: a },
         2 => Binding::Range {
             slot,
             low: a,
-            high: b,
+            high: word(words, at + 3),
         },
         _ => Binding::Aggregate {
             slot,
-            function: codes::function(a),
+            function: AggregateFunction::from(a),
         },
     }
 }
 
-fn guard(kind: u64, a: u64, b: u64, c: u64) -> Guard {
-    if kind == 0 {
-        return Guard::Compare {
+// The i-th guard: four words, behind the bindings.
+fn guard(words: &[u64], i: usize) -> Guard
+    requires { i < 32 }
+{
+    let at = 133 + 4 * i;
+    let a = word(words, at + 1);
+    let b = word(words, at + 2);
+    let c = word(words, at + 3);
+    match word(words, at) {
+        0 => Guard::Compare {
             left: a,
-            relation: codes::relation(b),
+            relation: Relation::from(b),
             right: c,
-        };
-    }
-    Guard::Membership {
-        slot: a,
-        low: b,
-        high: c,
+        },
+        _ => Guard::Membership {
+            slot: a,
+            low: b,
+            high: c,
+        },
     }
 }
 
-// Four words for each binding, from the sixth word on.
-fn bindings(words: &[u64]) -> [Binding; 32] {
-    let first = binding(
-        word(words, 5),
-        word(words, 6),
-        word(words, 7),
-        word(words, 8),
-    );
-    let mut items = [first; 32];
-    let mut i: usize = 0;
-    while i < 32 {
-        let at = 5 + 4 * i;
-        items[i] = binding(
-            word(words, at),
-            word(words, at + 1),
-            word(words, at + 2),
-            word(words, at + 3),
-        );
-        i += 1;
+// The i-th head: two words, behind the guards.
+fn head(words: &[u64], i: usize) -> Head
+    requires { i < 16 }
+{
+    let at = 261 + 2 * i;
+    Head {
+        argument: word(words, at),
+        value: word(words, at + 1),
     }
-    items
-}
-
-// Four words for each guard, behind the bindings.
-fn guards(words: &[u64]) -> [Guard; 32] {
-    let first = guard(
-        word(words, 133),
-        word(words, 134),
-        word(words, 135),
-        word(words, 136),
-    );
-    let mut items = [first; 32];
-    let mut i: usize = 0;
-    while i < 32 {
-        let at = 133 + 4 * i;
-        items[i] = guard(
-            word(words, at),
-            word(words, at + 1),
-            word(words, at + 2),
-            word(words, at + 3),
-        );
-        i += 1;
-    }
-    items
-}
-
-// Two words for each head, behind the guards.
-fn heads(words: &[u64]) -> [Head; 16] {
-    let first = Head {
-        argument: word(words, 261),
-        value: word(words, 262),
-    };
-    let mut items = [first; 16];
-    let mut i: usize = 0;
-    while i < 16 {
-        let at = 261 + 2 * i;
-        items[i] = Head {
-            argument: word(words, at),
-            value: word(words, at + 1),
-        };
-        i += 1;
-    }
-    items
 }
 
 // The slots, the four lengths, the bindings, the guards and the heads.
@@ -130,9 +86,9 @@ pub fn rule(words: &[u64]) -> Rule {
     };
     Rule {
         slots: word(words, 0),
-        bindings: bindings(words),
-        guards: guards(words),
-        heads: heads(words),
+        bindings: array::from_fn(|i| binding(words, i)),
+        guards: array::from_fn(|i| guard(words, i)),
+        heads: array::from_fn(|i| head(words, i)),
         lengths,
     }
 }

@@ -3,7 +3,7 @@
 use crate::reading::{Malformed, Reader};
 use limits::Limits;
 use nodes::Expression;
-use rules::{Binding, Guard, Head, Lengths, Rule};
+use rules::{AggregateFunction, Binding, Guard, Head, Lengths, Relation, Rule};
 
 // The most parts of one kind that can be read, and the most bytes of a name. A store takes fewer.
 const PARTS: u64 = 64;
@@ -35,7 +35,7 @@ impl Parse for Binding {
             },
             _ => Binding::Aggregate {
                 slot,
-                function: codes::function(reader.number(4)?),
+                function: AggregateFunction::from(reader.number(4)?),
             },
         };
         Ok(binding)
@@ -47,7 +47,7 @@ impl Parse for Guard {
         let guard = if reader.number(1)? == 0 {
             Guard::Compare {
                 left: reader.wide()?,
-                relation: codes::relation(reader.number(5)?),
+                relation: Relation::from(reader.number(5)?),
                 right: reader.wide()?,
             }
         } else {

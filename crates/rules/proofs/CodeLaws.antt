@@ -5,6 +5,10 @@ use native.Mathlib.Nat.{add-zero}
 use native.Mathlib.Numerals.{add-one, towards_suc}
 use mathlib.Core.Path.{◌≡◌, refl, sym, ap, ◌∙◌}
 use mathlib.Core.List.{List, [], ◌∷◌, ◌++◌, map, map-append}
+use mathlib.Core.Bool.{Bool, true, false, cond, not}
+use lib.Dec.{eqb}
+use Rattle.std.specs.Bool.{then_some}
+use Rattle.std.specs.Prelude.{None, Some}
 use lib.ListN.{length, get_or, drop, set, length-map, drop_of_length-le}
 use lib.Seq.{sets, drop-cons}
 use Rattle.integers.proofs.Stores.{get_or_min}
@@ -15,8 +19,8 @@ use Rattle.rules.specs.declared.Guard.{Guard}
 use Rattle.rules.specs.declared.Guard.TheVariants.{Compare, Membership}
 use Rattle.rules.specs.declared.Head.{Head}
 use Rattle.rules.specs.declared.Rule.{Rule}
-use Rattle.rules.specs.Rule.{binding_cells, guard_cells, head_cells, mark_of, number_of, fixed_cells, bindings_of, guards_of, heads_of, flat, cell, row, put_rule}
-use Rattle.rules.specs.Read.{binding_of, guard_of, head_of, context_of, slots_at, context_at, binding_count, guard_count, head_count, binding_at, guard_at, head_at}
+use Rattle.rules.specs.Rule.{binding_cells, guard_cells, head_cells, fixed_cells, bindings_of, guards_of, heads_of, flat, cell, row, put_rule}
+use Rattle.rules.specs.Read.{binding_of, guard_of, head_of, slots_at, context_at, binding_count, guard_count, head_count, binding_at, guard_at, head_at}
 
 -- ---- cells one after another
 
@@ -69,13 +73,6 @@ guard_width (Membership s l h) = refl
 pub head_width : (h : Head) → length (head_cells h) ≡ 2
 head_width h = refl
 
--- ---- the six cells before the bindings
-
-pub fixed_put : (d : List ℕ) (at : ℕ) (r : Rule) (c : Context) {a b : ℕ} {l₁ l₂ l : List ℕ} → a ≡ mark_of c → b ≡ number_of c →
-    l₁ ≡ sets d at (map cell (r.slots ∷ a ∷ b ∷ r.lengths.bindings ∷ [])) → l₂ ≡ set l₁ (at + 4) (cell r.lengths.guards) → l ≡ set l₂ (at + 5) (cell r.lengths.heads) →
-    l ≡ sets d at (map cell (fixed_cells r c))
-fixed_put d at r c e f p q s = s ∙ rw (q, p, e, f) (simp towards_suc)
-
 -- ---- a whole row
 
 pub rule_put : (d : List ℕ) (id : ℕ) (r : Rule) (c : Context) {l₁ l₂ l₃ l : List ℕ} → l₁ ≡ sets d (row * id) (map cell (fixed_cells r c)) →
@@ -83,6 +80,12 @@ pub rule_put : (d : List ℕ) (id : ℕ) (r : Rule) (c : Context) {l₁ l₂ l�
     l₃ ≡ sets l₂ (row * id + 134) (map cell (flat guard_cells (guards_of r))) → l ≡ sets l₃ (row * id + 262) (map cell (flat head_cells (heads_of r))) → l ≡ put_rule d id r c
 unfolding put_rule
 rule_put d id r c p q s t = t ∙ rw (s, q, p)
+
+-- ---- a context's two cells: any mark but 0 is one
+
+unmarked : (zero : Bool) (n : ℕ) → then_some (not zero) n ≡ cond zero None (Some n)
+unmarked true n = refl
+unmarked false n = refl
 
 -- ---- a cell of a row, which begins at the table's end where it would begin beyond
 
@@ -110,9 +113,9 @@ module _ (cells : List ℕ) where
         ∙ ap (λ (m : ℕ). min m 16)
         (p ∙ ap (λ (n : ℕ). get_or cells n 0) (sym (add-zero at)) ∙ reached (row * id) at 0 start ∙ ap (λ (n : ℕ). get_or cells n 0) (add-zero (row * id)))
 
-    pub context_read_lem : {m n : ℕ} {c : Context} → m ≡ get_or cells (at + 1) 0 → n ≡ get_or cells (at + 2) 0 → c ≡ context_of m n → c ≡ context_at cells id
+    pub context_read_lem : {m n : ℕ} {c : Context} → m ≡ get_or cells (at + 1) 0 → n ≡ get_or cells (at + 2) 0 → c ≡ then_some (not (eqb m 0)) n → c ≡ context_at cells id
     unfolding context_at
-    context_read_lem p q e = e ∙ rw (p, q, reached (row * id) at 1 start, reached (row * id) at 2 start)
+    context_read_lem {m} {n} p q e = e ∙ unmarked (eqb m 0) n ∙ rw (p, q, reached (row * id) at 1 start, reached (row * id) at 2 start)
 
     pub binding_count_read : {m n : ℕ} → m ≡ get_or cells (at + 3) 0 → n ≡ min m 32 → n ≡ binding_count cells id
     unfolding binding_count

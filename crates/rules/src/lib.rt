@@ -5,8 +5,8 @@ ghost use Rattle.std.specs.Prelude.{◌≡◌, ℕ, List, [], ◌∷◌, map, mi
 ghost use Rattle.rules.specs.declared.Binding.TheVariants.{Positive, Assign, Range, Aggregate};
 ghost use Rattle.rules.specs.declared.Guard.TheVariants.{Compare, Membership};
 ghost use Rattle.std.proofs.lemmas.List.Edits.{sets};
-ghost use Rattle.rules.specs.Rule.{function_number, relation_number, binding_cells, guard_cells, head_cells, mark_of, number_of, fixed_cells, flat, cell, row, put_rule};
-ghost use Rattle.rules.specs.Read.{function_of, relation_of, binding_of, guard_of, head_of, context_of, slots_at, context_at, binding_count, guard_count, head_count, binding_at, guard_at, head_at};
+ghost use Rattle.rules.specs.Rule.{function_number, relation_number, binding_cells, guard_cells, head_cells, fixed_cells, flat, cell, row, put_rule};
+ghost use Rattle.rules.specs.Read.{function_of, relation_of, binding_of, guard_of, head_of, slots_at, context_at, binding_count, guard_count, head_count, binding_at, guard_at, head_at};
 
 #[derive(Clone, Copy, Debug, PartialEq, Eq)]
 pub enum AggregateFunction {
@@ -120,6 +120,36 @@ impl From<Relation> for u64 {
     }
 }
 
+// Back from a number. Any is read, the last kind where there is no other: no `TryFrom`, since neither can fail.
+impl From<u64> for AggregateFunction {
+    ghost from_gives = { λ n f. f ≡ function_of n };
+
+    fn from(number: u64) -> AggregateFunction {
+        match number {
+            0 => AggregateFunction::Count,
+            1 => AggregateFunction::Sum,
+            2 => AggregateFunction::SumPlus,
+            3 => AggregateFunction::Min,
+            _ => AggregateFunction::Max,
+        }
+    }
+}
+
+impl From<u64> for Relation {
+    ghost from_gives = { λ n r. r ≡ relation_of n };
+
+    fn from(number: u64) -> Relation {
+        match number {
+            0 => Relation::Lt,
+            1 => Relation::Le,
+            2 => Relation::Gt,
+            3 => Relation::Ge,
+            4 => Relation::Eq,
+            _ => Relation::Neq,
+        }
+    }
+}
+
 // What a row has several of, each of them in as many cells.
 trait Item: Copy {
     const WIDTH: usize;
@@ -221,32 +251,16 @@ fn put_items<T: Item>(cells: &mut [u32], at: usize, items: &[T])
     }
 }
 
-fn context_mark(context: Option<u32>) -> u64
-    ensures { result ≡ mark_of context }
-{
-    match context {
-        None => 0,
-        Some(_) => 1,
-    }
-}
-
-fn context_number(context: Option<u32>) -> u64
-    ensures { result ≡ number_of context }
-{
-    match context {
-        None => 0,
-        Some(number) => number as u64,
-    }
-}
-
 // The cells before the bindings.
 fn put_fixed(cells: &mut [u32], at: usize, rule: Rule, context: Option<u32>)
     requires { at ≤ 75000 }
     ensures { cells.new ≡ sets cells.old at (map cell (fixed_cells rule context)) }
 {
     let lengths = rule.lengths;
-    let mark = context_mark(context);
-    let number = context_number(context);
+    let (mark, number) = match context {
+        Some(number) => (1, u64::from(number)),
+        None => (0, 0),
+    };
     put_four(cells, at, rule.slots, mark, number, lengths.bindings);
     put_number(cells, at + 4, lengths.guards);
     put_number(cells, at + 5, lengths.heads);
@@ -272,32 +286,6 @@ fn reach(len: usize, width: usize, j: usize) -> usize
     width.saturating_mul(j).min(len)
 }
 
-// Any number reads as a function and as a relation, the last one where there is no other: no `TryFrom`, since neither can fail.
-fn function_of(number: u32) -> AggregateFunction
-    ensures { result ≡ function_of number }
-{
-    match number {
-        0 => AggregateFunction::Count,
-        1 => AggregateFunction::Sum,
-        2 => AggregateFunction::SumPlus,
-        3 => AggregateFunction::Min,
-        _ => AggregateFunction::Max,
-    }
-}
-
-fn relation_of(number: u32) -> Relation
-    ensures { result ≡ relation_of number }
-{
-    match number {
-        0 => Relation::Lt,
-        1 => Relation::Le,
-        2 => Relation::Gt,
-        3 => Relation::Ge,
-        4 => Relation::Eq,
-        _ => Relation::Neq,
-    }
-}
-
 // A kind that does not exist reads as the first.
 fn binding_of(kind: u32, a: u32, b: u32, c: u32) -> Binding
     ensures { result ≡ binding_of kind a b c }
@@ -315,7 +303,7 @@ fn binding_of(kind: u32, a: u32, b: u32, c: u32) -> Binding
         },
         3 => Binding::Aggregate {
             slot,
-            function: function_of(b),
+            function: AggregateFunction::from(u64::from(b)),
         },
         _ => Binding::Positive {
             slot,
@@ -335,19 +323,10 @@ fn guard_of(kind: u32, a: u32, b: u32, c: u32) -> Guard
         },
         _ => Guard::Compare {
             left: u64::from(a),
-            relation: relation_of(b),
+            relation: Relation::from(u64::from(b)),
             right: u64::from(c),
         },
     }
-}
-
-fn context_of(mark: u32, number: u32) -> Option<u32>
-    ensures { result ≡ context_of mark number }
-{
-    if mark == 0 {
-        return None;
-    }
-    Some(number)
 }
 
 // A count, or what a row has room for.
@@ -368,7 +347,8 @@ pub fn context_at(cells: &[u32], id: usize) -> Option<u32>
     ensures { result ≡ context_at cells.now id }
 {
     let at = reach(cells.len(), ROW, id);
-    context_of(cells::cell_at(cells, at + 1), cells::cell_at(cells, at + 2))
+    let marked = cells::cell_at(cells, at + 1) != 0;
+    marked.then_some(cells::cell_at(cells, at + 2))
 }
 
 pub fn binding_count(cells: &[u32], id: usize) -> usize

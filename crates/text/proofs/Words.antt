@@ -1,25 +1,21 @@
 -- Words with a space in front, and the ids of a list.
-use Prim.Native.Nat.{ℕ, zero, suc, ◌+◌, ◌*◌, ◌≤◌, ◌<◌, ◌^◌}
+use Prim.Native.Nat.{ℕ, suc, ◌+◌, ◌-◌, ◌*◌, ◌≤◌, ◌<◌, ◌^◌}
 use native.Mathlib.Omega.{arith}
 use native.Mathlib.Numerals.{add-one}
 use mathlib.Core.Path.{◌≡◌, refl, sym, ap, ◌∙◌}
-use mathlib.Core.Bool.{true, false}
 use mathlib.Core.List.{List, [], ◌∷◌, ◌++◌, append_assoc, append-nil}
 use lib.IntN.{ℤ}
 use lib.ListN.{length, get_or, take, drop, length-append, length-take, length-drop, drop_of_length-le}
-use lib.Seq.{drop-cons, get_or-take}
+use lib.Seq.{drop-cons, take_all}
 use mir.Syntax.{w16, w32}
 use mir.Val.{Fits, SFits, to_z, of_z}
 use mir.Facts.{to_z-of_z}
 use Rattle.integers.specs.Order.{least32, greatest32}
 use Rattle.integers.specs.Lists.{All}
-use Rattle.integers.proofs.Stores.{all_take, all_drop}
 use Rattle.interval.specs.declared.Interval.{Interval}
 use Rattle.interval.specs.declared.Interval.TheVariants.{Bottom, Bounded, Unbounded}
 use Rattle.interval.specs.declared.Bound.{Bound}
-use Rattle.lattice.specs.declared.Abstract.{Abstract}
-use Rattle.lattice.specs.Value.{value_of}
-use Rattle.text.specs.Text.{decimal, integer, letter, ends, bound_words, others, bracketed, list_word, spaced, spaced_words, line}
+use Rattle.text.specs.Text.{decimal, integer, letter, ends, bound_words, others, bracketed, spaced, spaced_words, line}
 use Rattle.text.specs.Answers.{Puts}
 use Rattle.text.proofs.Putting.{Leads, leads_whole, leads_more, leads_all, puts_then, puts_same}
 use Rattle.text.proofs.Decimals.{decimal_length_16}
@@ -100,48 +96,35 @@ each_small : (l : List ℕ) → ((k : ℕ) → Fits w16 (get_or l k 0)) → All 
 each_small [] h = tt
 each_small (i ∷ l) h = ((h 0).fits, each_small l (λ k. h (suc k)))
 
-module _ (ids : List ℕ) (len : ℕ) (size : length ids ≡ 16) where
-  pub others_room : ((k : ℕ) → Fits w16 (get_or ids k 0)) → length (others (drop 1 (take len ids))) ≤ 91
-  others_room small =
-      let s : All (λ i. i < 2 ^ 16) (drop 1 (take len ids)) = all_drop (λ (i : ℕ). i < 2 ^ 16) 1 (take len ids) (all_take (λ (i : ℕ). i < 2 ^ 16) len ids (each_small ids small)) in
-      omega (arith, others_length (drop 1 (take len ids)) s, length-drop 1 (take len ids), length-take len ids, size)
+pub others_room : (ids : List ℕ) → length ids ≤ 15 → ((k : ℕ) → Fits w16 (get_or ids k 0)) → length (others ids) ≤ 91
+others_room ids h small = omega (arith, others_length ids (each_small ids small))
 
-  pub sixteen : {n : ℕ} → n ≡ length (take len ids) → n ≤ 16
-  sixteen e = omega (arith, e, length-take len ids, size)
+next : (ids : List ℕ) (i : ℕ) → i < length ids → others (drop i ids) ≡ 44 ∷ (decimal (get_or ids i 0) ++ others (drop (i + 1) ids))
+unfolding others
+next ids i h = rw (drop-cons ids i 0 h, add-one)
 
-module _ (ids : List ℕ) (len i : ℕ) where
-  next : i < length (take len ids) → others (drop i (take len ids)) ≡ 44 ∷ (decimal (get_or ids i 0) ++ others (drop (i + 1) (take len ids)))
+module _ (ids : List ℕ) (i : ℕ) {t : List ℕ} {a b : ℕ} {l m : List ℕ} (p : Leads t a l (others (drop i ids)) b m) where
+  pub other_comma : {c : ℕ} {n : List ℕ} → i < length ids → Puts (44 ∷ []) b m c n → Leads t a l (decimal (get_or ids i 0) ++ others (drop (i + 1) ids)) c n
+  other_comma h q = leads_more (44 ∷ []) _ (rw (next ids i h) at p) q
+
+  pub other_room : b + 1 ≤ a + length t
+  other_room = omega (arith, p.place, others_some (drop i ids))
+
+  pub others_end : {c : ℕ} {n : List ℕ} → length ids ≤ i → Puts (93 ∷ []) b m c n → Puts t a l c n
   unfolding others
-  next h =
-      let g : i < len = omega (arith, length-take len ids) in
-      rw (drop-cons (take len ids) i 0 h, get_or-take len ids i 0 g, add-one)
+  others_end h q = leads_all p (puts_same (ap others (sym (drop_of_length-le ids h))) q)
 
-  module _ {t : List ℕ} {a b : ℕ} {l m : List ℕ} (p : Leads t a l (others (drop i (take len ids))) b m) where
-    pub other_comma : {c : ℕ} {n : List ℕ} → i < length (take len ids) → Puts (44 ∷ []) b m c n →
-        Leads t a l (decimal (get_or ids i 0) ++ others (drop (i + 1) (take len ids))) c n
-    other_comma h q = leads_more (44 ∷ []) _ (rw (next h) at p) q
+module _ (ids : List ℕ) (h : 1 ≤ length ids) where
+  pub rest_length : length (take (length ids - 1) (drop 1 ids)) + 1 ≡ length ids
+  rest_length = omega (arith, length-take (length ids - 1) (drop 1 ids), length-drop 1 ids)
 
-    pub other_room : b + 1 ≤ a + length t
-    other_room = omega (arith, p.place, others_some (drop i (take len ids)))
+  first_id : ids ≡ get_or ids 0 0 ∷ take (length ids - 1) (drop 1 ids)
+  first_id = go ids h
+    where
+      go : (l : List ℕ) → 1 ≤ length l → l ≡ get_or l 0 0 ∷ take (length l - 1) (drop 1 l)
+      go [] g = absurd (omega arith)
+      go (i ∷ l) g = ap (λ (k : List ℕ). i ∷ k) (sym (take_all (length (i ∷ l) - 1) l (omega arith)))
 
-    pub others_end : {c : ℕ} {n : List ℕ} → length (take len ids) ≤ i → Puts (93 ∷ []) b m c n → Puts t a l c n
-    unfolding others
-    others_end h q = leads_all p (puts_same (ap others (sym (drop_of_length-le (take len ids) h))) q)
-
-first_id : (ids : List ℕ) (len : ℕ) → 0 < len → 0 < length ids → take len ids ≡ get_or ids 0 0 ∷ drop 1 (take len ids)
-first_id [] len h g = absurd (omega arith)
-first_id (i ∷ ids) zero h g = absurd (omega arith)
-first_id (i ∷ ids) (suc len) h g = refl
-
-module _ (v : Abstract) {a b : ℕ} {l m : List ℕ} where
-  pub puts_none : v.kept ≡ false → Puts (45 ∷ []) a l b m → Puts (list_word (value_of v).values) a l b m
-  puts_none e p = rw e p
-
-  pub puts_nothing : {c : ℕ} {n : List ℕ} → v.kept ≡ true → v.len ≡ 0 →
-      Puts (91 ∷ []) a l b m → Puts (93 ∷ []) b m c n → Puts (list_word (value_of v).values) a l c n
-  puts_nothing e z p q = rw (e, z) (puts_then p q)
-
-  pub puts_list : {c d : ℕ} {n o : List ℕ} → v.kept ≡ true → 0 < v.len → 0 < length v.ids →
-      Puts (91 ∷ []) a l b m → Puts (decimal (get_or v.ids 0 0)) b m c n → Puts (others (drop 1 (take v.len v.ids))) c n d o →
-      Puts (list_word (value_of v).values) a l d o
-  puts_list e h g p q r = rw e (puts_same (ap bracketed (sym (first_id v.ids v.len h g))) (puts_then p (puts_then q r)))
+  pub puts_ids : {a b c d : ℕ} {l m n o : List ℕ} → Puts (91 ∷ []) a l b m → Puts (decimal (get_or ids 0 0)) b m c n →
+      Puts (others (take (length ids - 1) (drop 1 ids))) c n d o → Puts (bracketed ids) a l d o
+  puts_ids p q r = puts_same (ap bracketed (sym first_id)) (puts_then p (puts_then q r))

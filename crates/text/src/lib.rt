@@ -2,9 +2,9 @@
 //! asks for the room of its longest text, and answers the place behind what it wrote, which lies within that room.
 #![tactic(auto)]
 
-ghost use Rattle.std.specs.Prelude.{◌+◌, ◌*◌, ◌/◌, ◌%◌, ◌≤◌, ◌^◌, ◌≡◌, [], ◌∷◌, length, take, drop};
+ghost use Rattle.std.specs.Prelude.{◌+◌, ◌*◌, ◌/◌, ◌%◌, ◌≤◌, ◌^◌, ◌≡◌, [], ◌∷◌, length};
 ghost use Rattle.lattice.specs.Value.{value_of};
-ghost use Rattle.text.specs.Text.{decimal, integer, letter, ends, bound_words, others, list_word, spaced_words};
+ghost use Rattle.text.specs.Text.{decimal, integer, letter, ends, bound_words, others, bracketed, list_word, spaced_words};
 ghost use Rattle.text.specs.Answers.{Puts};
 
 use interval::{Bound, Integrality, Interval};
@@ -83,18 +83,17 @@ pub fn put_number(line: &mut [u8], at: usize, n: u64) -> usize
     put_decimal(line, word, n)
 }
 
-// A negative z is -(n + 1), where n fits the type of z.
 pub fn put_integer(line: &mut [u8], at: usize, z: i32) -> usize
     requires { at + 11 ≤ length line.old }
     ensures puts { Puts (integer z) at line.old result line.new }
     ensures within { result ≤ at + 11 }
 {
+    let n = u64::from(z.unsigned_abs());
     if z < 0 {
-        let n = (-1 - z) as u64;
         let digits = put_byte(line, at, b'-');
-        return put_digits(line, digits, n + 1);
+        return put_digits(line, digits, n);
     }
-    put_digits(line, at, z as u64)
+    put_digits(line, at, n)
 }
 
 // Two ends, each behind a space.
@@ -129,7 +128,7 @@ pub fn put_interval(line: &mut [u8], at: usize, interval: Interval) -> usize
             put_letter(line, second, b'e')
         }
         Interval::Bounded { low, high } => put_ends(line, at, low, high),
-        Interval::Unbounded => put_ends(line, at, -2147483648, 2147483647),
+        Interval::Unbounded => put_ends(line, at, i32::MIN, i32::MAX),
     }
 }
 
@@ -147,27 +146,38 @@ pub fn put_bound(line: &mut [u8], at: usize, bound: Bound) -> usize
     ensures puts { Puts (spaced_words (bound_words bound)) at line.old result line.new }
     ensures within { result ≤ at + 26 }
 {
-    let integrality = bound.integrality;
-    let interval = bound.interval;
-    let words = put_letter(line, at, letter_of(integrality));
-    put_interval(line, words, interval)
+    let words = put_letter(line, at, letter_of(bound.integrality));
+    put_interval(line, words, bound.interval)
 }
 
 // The ids behind the first, each behind a comma, and the bracket.
-fn put_others(line: &mut [u8], at: usize, ids: [u16; 16], len: usize) -> usize
-    requires { at + 91 ≤ length line.old }
-    ensures puts { Puts (others (drop 1 (take len ids))) at line.old result line.new }
+fn put_others(line: &mut [u8], at: usize, ids: &[u16]) -> usize
+    requires { (at + 91 ≤ length line.old) × (length ids.now ≤ 15) }
+    ensures puts { Puts (others ids.now) at line.old result line.new }
     ensures within { result ≤ at + 91 }
 {
-    let n = lists::length_of(ids, len);
     let mut place = at;
-    let mut i = 1;
-    while i < n {
+    for id in ids {
         let digits = put_byte(line, place, b',');
-        place = put_digits(line, digits, ids[i] as u64);
-        i += 1;
+        place = put_digits(line, digits, u64::from(*id));
     }
     put_byte(line, place, b']')
+}
+
+// Ids in brackets.
+fn put_ids(line: &mut [u8], at: usize, ids: &[u16]) -> usize
+    requires { (at + 97 ≤ length line.old) × (length ids.now ≤ 16) }
+    ensures puts { Puts (bracketed ids.now) at line.old result line.new }
+    ensures within { result ≤ at + 97 }
+{
+    let first = put_byte(line, at, b'[');
+    match ids {
+        [] => put_byte(line, first, b']'),
+        [id, rest @ ..] => {
+            let second = put_digits(line, first, u64::from(*id));
+            put_others(line, second, rest)
+        }
+    }
 }
 
 pub fn put_list(line: &mut [u8], at: usize, value: Abstract) -> usize
@@ -175,15 +185,8 @@ pub fn put_list(line: &mut [u8], at: usize, value: Abstract) -> usize
     ensures puts { Puts (list_word (value_of value).values) at line.old result line.new }
     ensures within { result ≤ at + 97 }
 {
-    if !value.kept {
-        return put_byte(line, at, b'-');
+    match value.list() {
+        None => put_byte(line, at, b'-'),
+        Some(ids) => put_ids(line, at, ids),
     }
-    let ids = value.ids;
-    let len = value.len;
-    let first = put_byte(line, at, b'[');
-    if len == 0 {
-        return put_byte(line, first, b']');
-    }
-    let second = put_digits(line, first, ids[0] as u64);
-    put_others(line, second, ids, len)
 }

@@ -5,4 +5,4 @@ use Rattle.rules.proofs.context_at.Goals as goal
 pub returns : goal.returns
 returns c =
     let a = c.args in
-    context_read_lem a.cells.now a.id c.reach-at.result c.reach-at.ensures c.cell_at.ensures c.cell_at-2.ensures c.context_of.ensures
+    context_read_lem a.cells.now a.id c.reach-at.result c.reach-at.ensures c.cell_at-marked.ensures c.cell_at.ensures c.then_some.ensures
