@@ -13,17 +13,13 @@ use Rattle.limits.specs.declared.Budget.{Budget}
 use Rattle.limits.specs.declared.Billed.{Billed}
 use Rattle.limits.specs.declared.Billed.TheVariants.{Paid}
 use Rattle.limits.specs.declared.Billed.TheVariants as billed
-use Rattle.limits.specs.Metered.{Run, going, stopped, Metered, ◌>>◌, mapped, through, zoom}
+use Rattle.limits.specs.Metered.{Run, going, stopped, Metered, answered, ◌>>◌, mapped, through, zoom}
 use Rattle.limits.specs.Meter.{meter_of, with_meter}
-use Rattle.limits.specs.Budget.{work, released, ran}
+use Rattle.limits.specs.Budget.{work, released}
+use Rattle.std.proofs.Common.{Result, Ok, Err}
 use Rattle.limits.proofs.Monad.{then_stop, then_on, through_on, through_stop, through_is, yes_on, no_on}
-use Rattle.limits.proofs.CodeLaws.{paid, broke}
-use Rattle.thresholds.specs.declared.Entered.{Entered}
-use Rattle.thresholds.specs.declared.Entered.TheVariants as entered
 use Rattle.thresholds.specs.Thresholds.{Entry, entry, enter}
-use Rattle.thresholds.specs.Answers.{entered as as_entry}
 use Rattle.thresholds.proofs.Outcomes.{enter_grown}
-use Rattle.thresholds.proofs.CodeLaws.{went, halted}
 use Rattle.store.specs.Store.{Context}
 use Rattle.slots.specs.Slots.{Slots, slots, total, copies}
 use Rattle.evaluation.specs.Evaluation.{input}
@@ -38,24 +34,23 @@ use Rattle.passes.specs.Answers.{ascended}
 use Rattle.results.specs.Result.{close, ending, closing, last}
 use Rattle.results.specs.Answers.{ended}
 use Rattle.engine.specs.Run.{enter_ends, Start, start, copying, charging, clearing, seeded, Beginning, beginning, in_entry, in_start, begin, Progress, progress, in_ascent, in_ending, ascend_and_end, finish}
-use Rattle.engine.specs.Answers.{started, begun, progressed}
+use Rattle.engine.specs.Answers.{progressed}
 use Rattle.engine.proofs.Kept.{ascend_limits}
 
 -- ---- both ends
 
-module _ (s : Entry) {x : Entered} (t : List ℤ) (h : as_entry x t ≡ enter least32 s) {b : Budget} {n : ℕ} where
-  pub ends_stopped : {e : Stop} → x ≡ entered.Stopped e b n → as_entry (entered.Stopped e b n) t ≡ enter_ends s
+-- room for the second
+pub ends_room : (s : Entry) {t : Entry} → going tt t ≡ enter least32 s → s.count + 2 ≤ length s.table → length t.table ≡ length s.table → t.count < length t.table
+ends_room s h r l = omega (arith, enter_grown least32 s h)
+
+module _ (s : Entry) where
+  pub ends_stopped : {e : Stop} {t : Entry} → stopped e t ≡ enter least32 s → stopped e t ≡ enter_ends s
   unfolding enter_ends
-  ends_stopped q = then_stop (enter least32) s (enter greatest32) (halted q h)
+  ends_stopped h = then_stop (enter least32) s (enter greatest32) h
 
-  module _ (q : x ≡ entered.Done b n) where
-    -- room for the second
-    pub ends_room : s.count + 2 ≤ length s.table → length t ≡ length s.table → n < length t
-    ends_room r l = omega (arith, enter_grown least32 s (went q h))
-
-    pub ends_on : {y : Run Stop Entry (Unit {0})} → y ≡ enter greatest32 (entry b n t) → y ≡ enter_ends s
-    unfolding enter_ends
-    ends_on k = then_on (enter least32) s (enter greatest32) (went q h) k
+  pub ends_on : {t : Entry} {y : Run Stop Entry (Unit {0})} → going tt t ≡ enter least32 s → y ≡ enter greatest32 t → y ≡ enter_ends s
+  unfolding enter_ends
+  ends_on h k = then_on (enter least32) s (enter greatest32) h k
 
 -- ---- what m makes of a table in a budget, in a state that has both
 
@@ -85,10 +80,20 @@ module _ {S : Type 0} (budget_of : S → Budget) (rows_of : S → List ℕ) (put
     pub bills_paid : {left : Budget} → r ≡ Paid left → going tt (put left rows s) ≡ zoomed s
     bills_paid q = sym (ap (λ (y : Billed). placed (billed_with y rows)) q) ∙ bills_in
 
+-- ---- what a computation gives on a part of the state
+
+answered_through : {S T A : Type 0} (get : S → T) (put : T → S → S) (m : Metered Stop T A) (s : S) (r : Result A Stop) (t : T) → answered r t ≡ m (get s) → answered r (put t s) ≡ zoom get put m s
+unfolding through mapped
+answered_through {S} {T} {A} get put m s r t h = rw (← h) (go r)
+  where
+    go : (r : Result A Stop) → answered r (put t s) ≡ mapped (λ u. put u s) (λ u. put u s) (λ e. e) (answered r t)
+    go (Ok a) = refl
+    go (Err e) = refl
+
 -- ---- the seeds
 
 module _ (seeds : List ℕ) (n : ℕ) (b : Budget) (current growth : List ℕ) {r : Billed} {copied : List ℕ} (h : Bills (copies seeds 0 n) b current r copied) where
-  pub copies_stopped : {stop : Stop} {kept : Budget} → r ≡ billed.Stopped stop kept → started (billed.Stopped stop kept) copied growth ≡ seeded seeds n (start b current growth)
+  pub copies_stopped : {stop : Stop} {kept : Budget} → r ≡ billed.Stopped stop kept → stopped stop (start kept copied growth) ≡ seeded seeds n (start b current growth)
   unfolding seeded
   copies_stopped q =
       then_stop (copying seeds n) (start b current growth) (charging n >> clearing n)
@@ -101,45 +106,35 @@ module _ (seeds : List ℕ) (n : ℕ) (b : Budget) (current growth : List ℕ) {
         then_on (copying seeds n) (start b current growth) (charging n >> clearing n)
         (bills_paid (λ s. s.budget) (λ s. s.current) (λ c v s. start c v s.growth) (copies seeds 0 n) (start b current growth) h q) k
 
-    module _ {x : Billed} (p : ran x ≡ work n left) where
-      pub growth_stopped : {stop : Stop} {kept dropped : Budget} → x ≡ billed.Stopped stop kept → dropped ≡ released (total copied n) kept →
-          started (billed.Stopped stop dropped) copied growth ≡ seeded seeds n (start b current growth)
-      growth_stopped k d =
-          rw d
-          (copies_on
-          (then_stop (charging n) (start left copied growth) (clearing n)
-          (through_stop _ _ _ _ (zoom (λ s. s.budget) (λ c s. start c s.current s.growth) (work n)) (start left copied growth)
-          (through_stop _ _ _ _ (work n) (start left copied growth) (broke p k)))))
+    pub growth_stopped : {stop : Stop} {kept dropped : Budget} → stopped stop kept ≡ work n left → dropped ≡ released (total copied n) kept →
+        stopped stop (start dropped copied growth) ≡ seeded seeds n (start b current growth)
+    growth_stopped k d =
+        rw d
+        (copies_on
+        (then_stop (charging n) (start left copied growth) (clearing n)
+        (through_stop _ _ _ _ (zoom (λ s. s.budget) (λ c s. start c s.current s.growth) (work n)) (start left copied growth)
+        (through_stop _ _ _ _ (work n) (start left copied growth) k))))
 
-      pub growth_paid : {kept : Budget} {cleared : List ℕ} → x ≡ Paid kept → cleared ≡ no_growth growth n → started (Paid kept) copied cleared ≡ seeded seeds n (start b current growth)
-      growth_paid k d =
-          copies_on
-          (then_on (charging n) (start left copied growth) (clearing n)
-          (through_on _ _ _ _ (zoom (λ s. s.budget) (λ c s. start c s.current s.growth) (work n)) (start left copied growth)
-          (through_on _ _ _ _ (work n) (start left copied growth) (paid p k))) (rw d))
+    pub growth_paid : {kept : Budget} {cleared : List ℕ} → going tt kept ≡ work n left → cleared ≡ no_growth growth n → going tt (start kept copied cleared) ≡ seeded seeds n (start b current growth)
+    growth_paid k d =
+        copies_on
+        (then_on (charging n) (start left copied growth) (clearing n)
+        (through_on _ _ _ _ (zoom (λ s. s.budget) (λ c s. start c s.current s.growth) (work n)) (start left copied growth)
+        (through_on _ _ _ _ (work n) (start left copied growth) k)) (rw d))
 
 -- ---- the ends and the seeds
 
-module _ (seeds : List ℕ) (n : ℕ) (e : Entry) (current growth : List ℕ) {x : Entered} (t : List ℤ) (h : as_entry x t ≡ enter_ends e) {b : Budget} {k : ℕ} where
-  pub begin_stopped : {stop : Stop} → x ≡ entered.Stopped stop b k → begun (entered.Stopped stop b k) t current growth ≡ begin seeds n (beginning e current growth)
+module _ (seeds : List ℕ) (n : ℕ) (e : Entry) (current growth : List ℕ) {t : Entry} where
+  pub begin_stopped : {stop : Stop} → stopped stop t ≡ enter_ends e → stopped stop (beginning t current growth) ≡ begin seeds n (beginning e current growth)
   unfolding begin
-  begin_stopped q = then_stop (in_entry enter_ends) (beginning e current growth) (in_start (seeded seeds n)) (through_stop _ _ _ _ enter_ends (beginning e current growth) (halted q h))
+  begin_stopped q = then_stop (in_entry enter_ends) (beginning e current growth) (in_start (seeded seeds n)) (through_stop _ _ _ _ enter_ends (beginning e current growth) q)
 
-  module _ (q : x ≡ entered.Done b k) where
-    begin_on : {y : Run Stop Beginning (Unit {0})} → y ≡ in_start (seeded seeds n) (beginning (entry b k t) current growth) → y ≡ begin seeds n (beginning e current growth)
-    unfolding begin
-    begin_on z = then_on (in_entry enter_ends) (beginning e current growth) (in_start (seeded seeds n)) (through_on _ _ _ _ enter_ends (beginning e current growth) (went q h)) z
-
-    module _ {y : Billed} (current' growth' : List ℕ) (p : started y current' growth' ≡ seeded seeds n (start b current growth)) {c : Budget} where
-      pub seed_stopped : {stop : Stop} → y ≡ billed.Stopped stop c → begun (entered.Stopped stop c k) t current' growth' ≡ begin seeds n (beginning e current growth)
-      seed_stopped z =
-          begin_on
-          (through_stop _ _ _ _ (seeded seeds n) (beginning (entry b k t) current growth) (sym (ap (λ (v : Billed). started v current' growth') z) ∙ p))
-
-      pub seed_paid : y ≡ Paid c → begun (entered.Done c k) t current' growth' ≡ begin seeds n (beginning e current growth)
-      seed_paid z =
-          begin_on
-          (through_on _ _ _ _ (seeded seeds n) (beginning (entry b k t) current growth) (sym (ap (λ (v : Billed). started v current' growth') z) ∙ p))
+  pub begin_on : (y : Result (Unit {0}) Stop) (s : Start) → going tt t ≡ enter_ends e → answered y s ≡ seeded seeds n (start t.budget current growth) →
+      answered y (beginning (entry s.budget t.count t.table) s.current s.growth) ≡ begin seeds n (beginning e current growth)
+  unfolding begin
+  begin_on y s q k =
+      then_on (in_entry enter_ends) (beginning e current growth) (in_start (seeded seeds n)) (through_on _ _ _ _ enter_ends (beginning e current growth) q)
+      (answered_through (λ b. start b.entry.budget b.current b.growth) (λ s b. beginning (entry s.budget b.entry.count b.entry.table) s.current s.growth) (seeded seeds n) (beginning t current growth) y s k)
 
 -- ---- the ascent and the end
 

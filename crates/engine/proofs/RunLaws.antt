@@ -18,8 +18,6 @@ use Rattle.limits.specs.declared.Refusal.TheVariants.{Closed, Shape, Full}
 use Rattle.limits.specs.Refusal.{told}
 use Rattle.limits.specs.Metered.{going, stopped}
 use Rattle.limits.specs.Budget.{released}
-use Rattle.thresholds.specs.declared.Entered.{Entered}
-use Rattle.thresholds.specs.declared.Entered.TheVariants as entered
 use Rattle.thresholds.specs.Thresholds.{entry}
 use Rattle.rows.specs.Row.{row, padded}
 use Rattle.rows.proofs.RowLaws.{length_padded, get_or_padded}
@@ -34,9 +32,9 @@ use Rattle.evaluation.specs.Evaluation.{input}
 use Rattle.rounds.specs.declared.Ran.{Ran}
 use Rattle.rounds.specs.declared.Ran.TheVariants as runs
 use Rattle.rounds.specs.Round.{given, blank, moved}
-use Rattle.engine.specs.Run.{beginning, begin, progress, finish}
+use Rattle.engine.specs.Run.{Beginning, beginning, begin, progress, finish}
 use Rattle.engine.specs.Call.{Read, Tables, tables, sizes, result_sizes, spacious, ended_in, concluded, finished, ran_on, run_call}
-use Rattle.engine.specs.Answers.{begun, progressed, Concludes}
+use Rattle.engine.specs.Answers.{progressed, Concludes}
 use Rattle.engine.proofs.Kept.{begin_limits, begin_grown}
 
 -- ---- the first cells of a table in another
@@ -65,28 +63,30 @@ module _ (s : Store) (n : ℕ) (seeds current bounds arguments slots : List ℕ)
 
 -- ---- the run of a store that admits it
 
-module _ (r : Read) (s : Store) (before : List ℤ) (arguments slots : List ℕ) {x : Entered} (marks : List ℤ) (current growth : List ℕ)
-    (h : begun x marks current growth ≡ begin r.seeds s.counts.positions (beginning (entry s.budget s.counts.thresholds before) blank (replicate 512 0))) where
-  pub open_stopped : {stop : Stop} {kept : Budget} {n : ℕ} {result : Store} → x ≡ entered.Stopped stop kept n → result ≡ ended_in (Stopped stop s.context) kept n s →
+module _ (r : Read) (s : Store) (before : List ℤ) (arguments slots : List ℕ) (b : Budget) (n : ℕ) (marks : List ℤ) (current growth : List ℕ) where
+  abbrev from : Beginning
+  from = beginning (entry s.budget s.counts.thresholds before) blank (replicate 512 0)
+
+  abbrev to : Beginning
+  to = beginning (entry b n marks) current growth
+
+  pub open_stopped : {stop : Stop} {result : Store} → stopped stop to ≡ begin r.seeds s.counts.positions from → result ≡ ended_in (Stopped stop s.context) b n s →
       tables result marks arguments slots ≡ ran_on r (tables s before arguments slots)
   unfolding ran_on
-  open_stopped q e = rw e (ap (finished r (tables s before arguments slots)) (sym (ap (λ (y : Entered). begun y marks current growth) q) ∙ h))
+  open_stopped h e = rw e (ap (finished r (tables s before arguments slots)) h)
 
-  module _ {left : Budget} {n : ℕ} (q : x ≡ entered.Done left n) where
-    begins : going tt (beginning (entry left n marks) current growth) ≡ begin r.seeds s.counts.positions (beginning (entry s.budget s.counts.thresholds before) blank (replicate 512 0))
-    begins = sym (ap (λ (y : Entered). begun y marks current growth) q) ∙ h
-
+  module _ (begins : going tt to ≡ begin r.seeds s.counts.positions from) where
     -- the thresholds stand inside their table
     pub open_marks : s.counts.thresholds + 2 ≤ length before → length marks ≡ length before → n ≤ length marks
-    open_marks a l = omega (arith, begin_grown r.seeds s.counts.positions (beginning (entry s.budget s.counts.thresholds before) blank (replicate 512 0)) begins)
+    open_marks a l = omega (arith, begin_grown r.seeds s.counts.positions from begins)
 
     pub open_taken : s.counts.thresholds + 2 ≤ length before → length marks ≡ length before → n ≡ length (take n marks)
     open_taken a l = sym (length-take-le n marks (open_marks a l))
 
     pub open_run : {y : Ran} (current' growth' bounds' : List ℕ) {result : Store} {arguments' slots' : List ℕ} →
         progressed y current' growth' bounds' ≡
-        finish (given (input r.nodes r.constants left.limits.width) r.rules s.counts.rules r.seeds s.counts.positions) (take n marks)
-        (progress left s.context current growth (replicate 32768 0)) →
+        finish (given (input r.nodes r.constants b.limits.width) r.rules s.counts.rules r.seeds s.counts.positions) (take n marks)
+        (progress b s.context current growth (replicate 32768 0)) →
         Concludes s y n r.seeds current' bounds' arguments slots result arguments' slots' →
         tables result marks arguments' slots' ≡ ran_on r (tables s before arguments slots)
     unfolding ran_on
@@ -95,8 +95,8 @@ module _ (r : Read) (s : Store) (before : List ℤ) (arguments slots : List ℕ)
         ∙ ap (concluded r.seeds n marks (tables s before arguments slots))
         (f
         ∙ ap (λ (l : Limits). finish (given (input r.nodes r.constants l.width) r.rules s.counts.rules r.seeds s.counts.positions) (take n marks)
-        (progress left s.context current growth (replicate 32768 0)))
-        (begin_limits r.seeds s.counts.positions (beginning (entry s.budget s.counts.thresholds before) blank (replicate 512 0)) begins))
+        (progress b s.context current growth (replicate 32768 0)))
+        (begin_limits r.seeds s.counts.positions from begins))
         ∙ ap (finished r (tables s before arguments slots)) begins
 
 -- ---- sizes and room

@@ -6,31 +6,28 @@ ghost use Rattle.std.specs.Prelude.{◌≡◌, ◌+◌, ◌≤◌, length};
 ghost use Rattle.std.proofs.lemmas.List.Edits.{sets};
 ghost use Rattle.rows.specs.Row.{padded};
 ghost use Rattle.thresholds.specs.Thresholds.{entry};
-ghost use Rattle.thresholds.specs.Answers.{entered};
 ghost use Rattle.evaluation.specs.Evaluation.{input};
 ghost use Rattle.rounds.specs.Round.{given};
 ghost use Rattle.engine.specs.Run.{enter_ends, start, seeded, beginning, begin, progress, ascend_and_end, finish};
 ghost use Rattle.engine.specs.Call.{read, tables, sizes, result_sizes, spacious, ended_in, ran_on, run_call};
+ghost use Rattle.limits.specs.Metered.{answered};
 ghost use Rattle.limits.specs.Refusal.{replied};
-ghost use Rattle.engine.specs.Answers.{started, begun, progressed, Concludes};
+ghost use Rattle.engine.specs.Answers.{progressed, Concludes};
 
-use limits::{Billed, Budget, Refusal, Resource};
+use limits::{Billed, Budget, Refusal, Resource, Stop};
 use rounds::Ran;
 use store::{Counts, Phase, Store};
-use thresholds::Entered;
 
 // Two cells for each argument.
 pub const GROWTH: usize = 512;
 
 // Both ends of 32 bits become thresholds (`complete_thresholds`).
-fn enter_ends(table: &mut [i32], count: usize, budget: Budget) -> Entered
-    requires { count + 2 ≤ length table.old }
-    ensures { entered result table.new ≡ enter_ends (entry budget count table.old) }
+fn enter_ends(table: &mut [i32], count: &mut usize, budget: &mut Budget) -> Result<(), Stop>
+    requires { count.old + 2 ≤ length table.old }
+    ensures { answered result (entry budget.new count.new table.new) ≡ enter_ends (entry budget.old count.old table.old) }
 {
-    match thresholds::enter_counted(table, count, -2147483648, budget) {
-        Entered::Stopped(stop, kept, n) => Entered::Stopped(stop, kept, n),
-        Entered::Done(paid, n) => thresholds::enter_counted(table, n, 2147483647, paid),
-    }
+    thresholds::enter(table, count, i32::MIN, budget)?;
+    thresholds::enter(table, count, i32::MAX, budget)
 }
 
 // The seeds are copied, and the growth of each argument is charged and cleared.
@@ -39,21 +36,26 @@ fn seed(
     positions: usize,
     current: &mut [u32],
     growth: &mut [u32],
-    budget: Budget,
-) -> Billed
-    ensures { started result current.new growth.new ≡ seeded seeds.now positions (start budget current.old growth.old) }
+    budget: &mut Budget,
+) -> Result<(), Stop>
+    ensures { answered result (start budget.new current.new growth.new) ≡ seeded seeds.now positions (start budget.old current.old growth.old) }
 {
-    match rounds::copy_in(budget, seeds, current, positions) {
-        Billed::Stopped(stop, kept) => Billed::Stopped(stop, kept),
-        Billed::Paid(paid) => match paid.charge(Resource::Work, positions as u64) {
-            Billed::Stopped(stop, kept) => {
-                Billed::Stopped(stop, rounds::without_rows(kept, current, positions))
-            }
-            Billed::Paid(left) => {
-                widening::clear_growth(growth, positions);
-                Billed::Paid(left)
-            }
-        },
+    match rounds::copy_in(*budget, seeds, current, positions) {
+        Billed::Stopped(stop, kept) => {
+            *budget = kept;
+            return Err(stop);
+        }
+        Billed::Paid(paid) => *budget = paid,
+    }
+    match budget.pay(Resource::Work, positions as u64) {
+        Err(stop) => {
+            *budget = rounds::without_rows(*budget, current, positions);
+            Err(stop)
+        }
+        Ok(()) => {
+            widening::clear_growth(growth, positions);
+            Ok(())
+        }
     }
 }
 
@@ -62,21 +64,16 @@ pub fn begin(
     seeds: &[u32],
     positions: usize,
     thresholds: &mut [i32],
-    count: usize,
+    count: &mut usize,
     current: &mut [u32],
     growth: &mut [u32],
-    budget: Budget,
-) -> Entered
-    requires { count + 2 ≤ length thresholds.old }
-    ensures { begun result thresholds.new current.new growth.new ≡ begin seeds.now positions (beginning (entry budget count thresholds.old) current.old growth.old) }
+    budget: &mut Budget,
+) -> Result<(), Stop>
+    requires { count.old + 2 ≤ length thresholds.old }
+    ensures { answered result (beginning (entry budget.new count.new thresholds.new) current.new growth.new) ≡ begin seeds.now positions (beginning (entry budget.old count.old thresholds.old) current.old growth.old) }
 {
-    match enter_ends(thresholds, count, budget) {
-        Entered::Stopped(stop, kept, n) => Entered::Stopped(stop, kept, n),
-        Entered::Done(paid, n) => match seed(seeds, positions, current, growth, paid) {
-            Billed::Stopped(stop, kept) => Entered::Stopped(stop, kept, n),
-            Billed::Paid(left) => Entered::Done(left, n),
-        },
-    }
+    enter_ends(thresholds, count, budget)?;
+    seed(seeds, positions, current, growth, budget)
 }
 
 // The ascent, then the last round and what the result is charged for.
@@ -139,13 +136,13 @@ fn finish(
 fn ended(store: Store, budget: Budget, thresholds: usize, phase: Phase) -> Store
     ensures { result ≡ ended_in phase budget thresholds store }
 {
-    let mut counts = store.counts;
-    let context = store.context;
-    counts.thresholds = thresholds;
     Store {
         budget,
-        counts,
-        context,
+        counts: Counts {
+            thresholds,
+            ..store.counts
+        },
+        context: store.context,
         phase,
     }
 }
@@ -154,10 +151,8 @@ fn ended(store: Store, budget: Budget, thresholds: usize, phase: Phase) -> Store
 fn move_cells(from: &[u32], to: &mut [u32], count: usize)
     ensures { to.new ≡ sets to.old 0 (padded count from.now) }
 {
-    let mut i: usize = 0;
-    while i < count {
+    for i in 0..count {
         cells::put_cell(to, i, cells::cell_at(from, i));
-        i += 1;
     }
 }
 
@@ -194,7 +189,7 @@ fn conclude(
 
 // The run of a store that admits it.
 fn run_open(
-    store: Store,
+    store: &mut Store,
     nodes: &[u64],
     constants: &[u32],
     rules: &[u32],
@@ -202,46 +197,46 @@ fn run_open(
     thresholds: &mut [i32],
     arguments: &mut [u32],
     slots: &mut [u32],
-) -> Store
-    requires { (store.counts.rules ≤ 256) × (store.counts.thresholds + 2 ≤ length thresholds.old) }
-    ensures { tables result thresholds.new arguments.new slots.new ≡ ran_on (read nodes.now constants.now rules.now seeds.now) (tables store thresholds.old arguments.old slots.old) }
+)
+    requires { (store.old.counts.rules ≤ 256) × (store.old.counts.thresholds + 2 ≤ length thresholds.old) }
+    ensures { tables store.new thresholds.new arguments.new slots.new ≡ ran_on (read nodes.now constants.now rules.now seeds.now) (tables store.old thresholds.old arguments.old slots.old) }
 {
-    let counts = store.counts;
-    let context = store.context;
-    let positions = counts.positions;
+    let given = *store;
+    let mut budget = given.budget;
+    let mut marks = given.counts.thresholds;
     let mut current = [0u32; rounds::ARGUMENTS];
     let mut growth = [0u32; GROWTH];
     let mut bounds = [0u32; results::BOUNDS];
     match begin(
         seeds,
-        positions,
+        given.counts.positions,
         thresholds,
-        counts.thresholds,
+        &mut marks,
         &mut current,
         &mut growth,
-        store.budget,
+        &mut budget,
     ) {
-        Entered::Stopped(stop, kept, marks) => {
-            ended(store, kept, marks, Phase::Stopped(stop, context))
+        Err(stop) => {
+            *store = ended(given, budget, marks, Phase::Stopped(stop, given.context));
         }
-        Entered::Done(begun, marks) => {
+        Ok(()) => {
             let ran = finish(
                 nodes,
                 constants,
                 rules,
-                counts.rules,
+                given.counts.rules,
                 seeds,
-                positions,
+                given.counts.positions,
                 &thresholds[..marks],
                 &mut current,
                 &mut growth,
                 &mut bounds,
-                begun,
-                context,
+                budget,
+                given.context,
             );
-            conclude(
-                store, ran, marks, seeds, &current, &bounds, arguments, slots,
-            )
+            *store = conclude(
+                given, ran, marks, seeds, &current, &bounds, arguments, slots,
+            );
         }
     }
 }
@@ -301,8 +296,8 @@ pub fn run(
     if !has_room(&store.counts) {
         return Err(Refusal::Full);
     }
-    *store = run_open(
-        *store, nodes, constants, rules, seeds, thresholds, arguments, slots,
+    run_open(
+        store, nodes, constants, rules, seeds, thresholds, arguments, slots,
     );
     Ok(())
 }

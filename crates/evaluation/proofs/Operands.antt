@@ -34,12 +34,12 @@ use Rattle.rows.specs.Row.{listed?, list_of, entries_of}
 use Rattle.rows.specs.declared.bridge.Copied.{Copied}
 use Rattle.rows.specs.declared.bridge.Copied.TheVariants as copying
 use Rattle.rows.specs.Answers.{copied_to}
-use Rattle.refinements.specs.declared.Noted.{Noted}
-use Rattle.refinements.specs.declared.Noted.TheVariants.{At}
-use Rattle.refinements.specs.declared.Noted.TheVariants as noted
+use Rattle.refinements.specs.declared.bridge.Noted.{Noted}
+use Rattle.refinements.specs.declared.bridge.Noted.TheVariants.{At}
+use Rattle.refinements.specs.declared.bridge.Noted.TheVariants as noted
 use Rattle.refinements.specs.Refinement.{refinement_at, refinements_of, narrow, restrict, position}
 use Rattle.refinements.specs.Answers.{Places}
-use Rattle.refinements.proofs.CodeLaws.{restrict_stops, restrict_found, restrict_ends}
+use Rattle.refinements.proofs.Counts.{restrict_stops, restrict_found, restrict_ends}
 use Rattle.lattice.specs.Value.{Reason}
 use Rattle.evaluation.specs.declared.Pair.{Pair}
 use Rattle.evaluation.specs.declared.Pair.TheVariants as pair

@@ -23,8 +23,8 @@ use Rattle.lattice.specs.Value.{Value}
 use Rattle.lattice.specs.Lattice.{numeric}
 use Rattle.rows.specs.Row.{entries_of}
 use Rattle.nodes.specs.declared.BinaryOp.{BinaryOp}
-use Rattle.refinements.specs.declared.Narrowed.{Narrowed}
-use Rattle.refinements.specs.declared.Narrowed.TheVariants as narrowing
+use Rattle.refinements.specs.declared.bridge.Narrowed.{Narrowed}
+use Rattle.refinements.specs.declared.bridge.Narrowed.TheVariants as narrowing
 use Rattle.refinements.specs.Refinement.{Refinement, refinements_of, restrict}
 use Rattle.refinements.specs.Answers.{narrowed_to, Restricts}
 use Rattle.evaluation.specs.declared.Combined.{Combined}

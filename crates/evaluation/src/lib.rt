@@ -195,7 +195,7 @@ fn finish(
     let outcome = node.outcome;
     match outcome {
         Outcome::Stopped(_) => node,
-        Outcome::Done => refinements::restrict(
+        Outcome::Done => refinements::restrict_counted(
             node.value,
             refinements,
             count,
@@ -247,7 +247,7 @@ fn narrowed(
 ) -> Operand
     ensures { Narrows (refinements_of refinements.now count) id interval work max_work entries result }
 {
-    match refinements::restrict_interval(interval, refinements, count, id, work, max_work) {
+    match refinements::restrict_interval_counted(interval, refinements, count, id, work, max_work) {
         Narrowed::Stopped(stop, now) => Operand::Stopped(stop, now, entries),
         Narrowed::To(narrow, now) => Operand::To(Bound::numeric(narrow), 0, now, entries),
     }
@@ -349,7 +349,7 @@ fn narrow_slot(
 {
     if rows::is_listed(slots, slot) {
         let value = rows::abstract_at(slots, slot);
-        return operand_of(refinements::narrow(
+        return operand_of(refinements::narrow_counted(
             value,
             restriction,
             constants,
@@ -382,7 +382,7 @@ fn slot_operand(
         Copied::Stopped(stop, w, e) => Operand::Stopped(stop, w, e),
         Copied::To(w, e) => {
             let listed = rows::entries_at(slots, slot);
-            match refinements::position(refinements, count, id, w, max_work) {
+            match refinements::position_counted(refinements, count, id, w, max_work) {
                 Noted::Stopped(stop, now) => {
                     Operand::Stopped(stop, now, limits::release(e, listed))
                 }
@@ -451,7 +451,7 @@ pub fn as_operand(
             ),
             Expression::Unknown(integer, reason) => {
                 let value = unknown(integer, reason);
-                operand_of(refinements::restrict(
+                operand_of(refinements::restrict_counted(
                     value,
                     refinements,
                     count,
@@ -606,7 +606,7 @@ pub fn expression(
             }
             Expression::Unknown(integer, reason) => {
                 let value = unknown(integer, reason);
-                refinements::restrict(
+                refinements::restrict_counted(
                     value,
                     refinements,
                     count,

@@ -38,9 +38,9 @@ use Rattle.slots.specs.declared.bridge.Counted.TheVariants.{Going}
 use Rattle.slots.specs.declared.bridge.Counted.TheVariants as counts
 use Rattle.slots.specs.Slots.{Slots, slots, total, refine_into, copies}
 use Rattle.slots.specs.Answers.{counted}
-use Rattle.refinements.specs.declared.Noted.{Noted}
-use Rattle.refinements.specs.declared.Noted.TheVariants.{At}
-use Rattle.refinements.specs.declared.Noted.TheVariants as noted
+use Rattle.refinements.specs.declared.bridge.Noted.{Noted}
+use Rattle.refinements.specs.declared.bridge.Noted.TheVariants.{At}
+use Rattle.refinements.specs.declared.bridge.Noted.TheVariants as noted
 use Rattle.refinements.specs.Refinement.{notes, refinements_of, integer?, note}
 use Rattle.refinements.specs.Answers.{on_table, NotesAs}
 use Rattle.evaluation.specs.declared.Pair.{Pair}

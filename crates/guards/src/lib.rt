@@ -73,7 +73,7 @@ fn narrow_known(
 ) -> Refined
     ensures { Refines (narrow_known nodes.now constants.now count id restriction) (meter work max_work entries max_entries) produced.old refinements.old result produced.new refinements.new }
 {
-    match refinements::note(refinements, count, id, restriction, work, max_work) {
+    match refinements::note_counted(refinements, count, id, restriction, work, max_work) {
         Noted::Stopped(stop, now) => Refined::Stopped(stop, now, entries),
         Noted::At(n, now) => match narrow_slot(
             produced,

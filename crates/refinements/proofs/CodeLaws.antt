@@ -13,40 +13,28 @@ use lib.ListN.{length, get_or, set}
 use lib.Seq.{sets}
 use Rattle.integers.specs.Lists.{from}
 use Rattle.integers.proofs.Stores.{sets_min, get_or_min}
-use Rattle.limits.specs.declared.Resource.TheVariants.{Work}
 use Rattle.limits.specs.declared.Stop.{Stop}
-use Rattle.limits.specs.declared.Charged.{Charged}
-use Rattle.limits.specs.declared.Charged.TheVariants.{Paid}
-use Rattle.limits.specs.declared.Charged.TheVariants as charged
-use Rattle.limits.specs.Charge.{charge_of}
 use Rattle.limits.specs.Metered.{Run, going, stopped, Metered, pure, after, ◌>>=◌, ◌>>◌, fold_m, mapped, through}
 use Rattle.limits.specs.declared.Meter.{Meter}
-use Rattle.limits.specs.Meter.{meter, work, released, holding, dropping}
+use Rattle.limits.specs.Meter.{work, released, with_entries, holding, dropping}
 use Rattle.limits.proofs.Monad.{bind_stop, bind_on, then_stop, then_on, through_on, through_stop, pure_is, yes_on, no_on, Ensures, by_pure, by_test, by_through, then}
 use Rattle.limits.proofs.Onward.{Onward, onward_begins, onward_is, onward_ends, onward_yes, onward_no, then_stops, then_goes}
-use Rattle.limits.proofs.CodeLaws.{work_paid, work_stopped, drop_on, drop_stop}
+use Rattle.limits.proofs.CodeLaws.{drop_on, drop_stop}
 use Rattle.interval.specs.declared.Interval.{Interval}
 use Rattle.interval.specs.declared.Interval.TheVariants.{Bottom, Bounded, Unbounded}
 use Rattle.interval.specs.Interval.{meet_of}
 use Rattle.interval.specs.Bound.{bottom_of, numeric_of, meet_bound, same_bound}
 use Rattle.cells.specs.Cells.{of_cell}
-use Rattle.lattice.specs.declared.bridge.Outcome.{Outcome}
-use Rattle.lattice.specs.declared.bridge.Outcome.TheVariants.{Done, Stopped}
-use Rattle.lattice.specs.declared.bridge.Made.{Made}
 use Rattle.std.specs.Prelude.{None}
-use Rattle.lattice.specs.Value.{Value, value_of, value}
+use Rattle.std.proofs.Common.{Result, Ok, Err}
+use Rattle.lattice.specs.Value.{Value, value}
 use Rattle.lattice.specs.Lattice.{numeric, sift, reduce, source, meet_lists, meet, refine}
-use Rattle.lattice.specs.Answers.{ran_as, made}
+use Rattle.lattice.specs.declared.Abstract.{Abstract}
+use Rattle.lattice.specs.Answers.{answered_value}
 use Rattle.rows.specs.Row.{case_cell, low_cell, high_cell, interval_of, entries_of}
 use Rattle.rows.proofs.RowLaws.{numeric_none}
-use Rattle.refinements.specs.declared.Noted.{Noted}
-use Rattle.refinements.specs.declared.Noted.TheVariants.{At}
-use Rattle.refinements.specs.declared.Noted.TheVariants as noted
-use Rattle.refinements.specs.Refinement.{Refinement, row, refinement_at, refinements_of, put_refinement, integer?, narrow, restrict, position, notes, note}
+use Rattle.refinements.specs.Refinement.{Refinement, row, refinement_at, refinements_of, put_refinement, integer?, narrow, restrict, place, position, notes, note}
 use Rattle.refinements.specs.Refinement as refinements
-use Rattle.refinements.specs.declared.Narrowed.TheVariants.{To}
-use Rattle.refinements.specs.declared.Narrowed.TheVariants as narrowed
-use Rattle.refinements.specs.Answers.{placed, Places, Restricts, on_table, NotesAs}
 
 -- ---- a row
 
@@ -76,99 +64,89 @@ module _ (cells : List ℕ) (k at : ℕ) (start : at ≡ min (row * k) (length c
 
 -- ---- a value is narrowed
 
-module _ (constants : List ℕ) (i : Interval) (v : Value) (w mw e me : ℕ) {t : Bool} (ask : t ≡ integer? v) where
-  pub narrow_yes : (new : Made) {n left : ℕ} → t ≡ true → made new mw me ≡ refine constants v i (meter w mw e me) → n ≡ entries_of v → left ≡ new.entries - n →
-      made (record { outcome = new.outcome; value = new.value; work = new.work; entries = left }) mw me ≡ narrow constants i v (meter w mw e me)
-  narrow_yes new {n} {left} p m q r = yes_on _ _ (meter w mw e me) (sym ask ∙ p) (rw (r, q) (go new.outcome m))
+module _ (constants : List ℕ) (i : Interval) (v : Value) (m : Meter) {t : Bool} (ask : t ≡ integer? v) where
+  pub narrow_yes : (r : Result Abstract Stop) (u : Meter) {n : ℕ} {left : Meter} → t ≡ true → answered_value r u ≡ refine constants v i m → n ≡ entries_of v → left ≡ released n u →
+      answered_value r left ≡ narrow constants i v m
+  narrow_yes r u p h q l = yes_on _ _ m (sym ask ∙ p) (rw (l, q) (go r h))
     where
-      go : (o : Outcome) → ran_as o (value_of new.value) (meter new.work mw new.entries me) ≡ refine constants v i (meter w mw e me) →
-          ran_as o (value_of new.value) (meter new.work mw (new.entries - entries_of v) me) ≡ dropping (entries_of v) (refine constants v i) (meter w mw e me)
-      go Done h = drop_on (entries_of v) (refine constants v i) (meter w mw e me) h
-      go (Stopped s) h = drop_stop (entries_of v) (refine constants v i) (meter w mw e me) h
+      go : (r : Result Abstract Stop) → answered_value r u ≡ refine constants v i m → answered_value r (released (entries_of v) u) ≡ dropping (entries_of v) (refine constants v i) m
+      go (Ok a) h = drop_on (entries_of v) (refine constants v i) m h
+      go (Err s) h = drop_stop (entries_of v) (refine constants v i) m h
 
-  pub narrow_no : t ≡ false → going v (meter w mw e me) ≡ narrow constants i v (meter w mw e me)
-  narrow_no p = no_on _ _ (meter w mw e me) (sym ask ∙ p) (pure_is v (meter w mw e me))
+  pub narrow_no : t ≡ false → going v m ≡ narrow constants i v m
+  narrow_no p = no_on _ _ m (sym ask ∙ p) (pure_is v m)
 
 -- ---- the place of the first
 
--- what is left to look at, whatever entries are live
-pub record Seeking (g : ℕ → Refinement) (id : ℕ) (whole : Metered Stop Meter ℕ) (w mw k count spent : ℕ) : Type 0 where
-  pub at : (e me : ℕ) → Onward whole (meter w mw e me) (position k (from g k (count - k)) id) (meter spent mw e me)
+module _ (g : ℕ → Refinement) (id count : ℕ) (m : Meter) where
+  abbrev pub Seeking : ℕ → Meter → Type 0
+  Seeking k t = Onward (position 0 (from g 0 count) id) m (position k (from g k (count - k)) id) t
 
-module _ (g : ℕ → Refinement) (id : ℕ) where
-  abbrev here : ℕ → ℕ → Metered Stop Meter ℕ
-  here k count = cond (eqb (g k).expression id) (pure k) (position (k + 1) (from g (k + 1) (count - (k + 1))) id)
+  pub seeking : Seeking 0 m
+  seeking = let e : count ≡ count - 0 = omega arith in onward_begins m (ap (λ (n : ℕ). position 0 (from g 0 n) id) e)
 
-  position_next : {k count : ℕ} → k < count → position k (from g k (count - k)) id ≡ (work 1 >> here k count)
-  unfolding position from
-  position_next {k} {count} h = let e : count - k ≡ suc (count - (k + 1)) = omega arith in ap (λ (n : ℕ). position k (from g k n) id) e
+  -- what follows the unit of work
+  abbrev here : ℕ → Metered Stop Meter ℕ
+  here k = cond (eqb (g k).expression id) (pure k) (position (k + 1) (from g (k + 1) (count - (k + 1))) id)
 
-  pub seek_begun : (count w mw : ℕ) → Seeking g id (position 0 (from g 0 count) id) w mw 0 count w
-  seek_begun count w mw = let e : count ≡ count - 0 = omega arith in record { at = λ e' me. onward_begins (meter w mw e' me) (ap (λ (n : ℕ). position 0 (from g 0 n) id) e) }
-
-  module _ {whole : Metered Stop Meter ℕ} {w mw k count spent : ℕ} (h : Seeking g id whole w mw k count spent) where
-    pub seek_ends : count ≤ k → Places whole w mw (At k spent)
+  module _ {k : ℕ} {t : Meter} (h : Seeking k t) where
+    pub seek_none : k ≡ count → going count t ≡ position 0 (from g 0 count) id m
     unfolding position from
-    seek_ends l = let e : count - k ≡ 0 = omega arith in record { at = λ e' me. onward_ends (h.at e' me) (ap (λ (n : ℕ). position k (from g k n) id) e) }
+    seek_none q = let e : count - k ≡ 0 = omega arith in ap (λ (n : ℕ). going n t) (sym q) ∙ onward_ends h (ap (λ (n : ℕ). position k (from g k n) id) e)
 
-    module _ (l : k < count) {x : Charged} (c : x ≡ charge_of Work spent 1 mw) where
-      pub seek_stops : {s : Stop} {n : ℕ} → x ≡ charged.Stopped s n → Places whole w mw (noted.Stopped s n)
-      seek_stops q = record { at = λ e me. then_stops (h.at e me) (work 1) (here k count) (position_next l) (work_stopped spent mw e me 1 c q) }
+    module _ (l : k < count) where
+      next : position k (from g k (count - k)) id ≡ (work 1 >> here k)
+      unfolding position from
+      next = let e : count - k ≡ suc (count - (k + 1)) = omega arith in ap (λ (n : ℕ). position k (from g k n) id) e
 
-      module _ {n : ℕ} (q : x ≡ Paid n) {f : ℕ} (s : f ≡ (g k).expression) where
-        paid_for_lem : (e me : ℕ) → Onward whole (meter w mw e me) (here k count) (meter n mw e me)
-        paid_for_lem e me = then_goes (h.at e me) (work 1) (here k count) (position_next l) (work_paid spent mw e me 1 c q)
+      pub seek_stopped : {s : Stop} {u : Meter} → stopped s u ≡ work 1 t → stopped s u ≡ position 0 (from g 0 count) id m
+      seek_stopped w = then_stops h (work 1) (here k) next w
 
-        pub seek_found : f ≡ id → Places whole w mw (At k n)
-        seek_found p = record {
-          at = λ e me.
-              onward_is (onward_yes (pure k) (position (k + 1) (from g (k + 1) (count - (k + 1))) id) (paid_for_lem e me) (eq-eqb _ id (sym s ∙ p))) (pure_is k (meter n mw e me));
-        }
+      module _ {u : Meter} (w : going tt u ≡ work 1 t) {f : ℕ} (s : f ≡ (g k).expression) where
+        paid_for : Onward (position 0 (from g 0 count) id) m (here k) u
+        paid_for = then_goes h (work 1) (here k) next w
 
-        pub seek_more : (f ≡ id → ⊥) → Seeking g id whole w mw (k + 1) count n
-        seek_more p = record { at = λ e me. onward_no (pure k) (position (k + 1) (from g (k + 1) (count - (k + 1))) id) (paid_for_lem e me) (ne_eqb _ id (λ z. p (s ∙ z))) }
+        pub seek_found : f ≡ id → going k u ≡ position 0 (from g 0 count) id m
+        seek_found p = onward_is (onward_yes (pure k) (position (k + 1) (from g (k + 1) (count - (k + 1))) id) paid_for (eq-eqb _ id (sym s ∙ p))) (pure_is k u)
+
+        pub seek_more : (f ≡ id → ⊥) → Seeking (k + 1) u
+        seek_more p = onward_no (pure k) (position (k + 1) (from g (k + 1) (count - (k + 1))) id) paid_for (ne_eqb _ id (λ z. p (s ∙ z)))
 
 -- ---- one is recorded
 
-module _ (n id : ℕ) (i : Interval) {w mw : ℕ} {table : List ℕ} {x : Noted} (h : Places (position 0 (refinements_of table n) id) w mw x) where
-  pub note_stopped : {s : Stop} {k : ℕ} → x ≡ noted.Stopped s k → NotesAs (note n id i) w mw table (noted.Stopped s k) table
+module _ (n id : ℕ) (i : Interval) (m : Meter) (table : List ℕ) {t : Meter} where
+  pub note_stopped : {s : Stop} → stopped s t ≡ position 0 (refinements_of table n) id m → stopped s (notes t table) ≡ note n id i (notes m table)
   unfolding note
-  note_stopped q = record {
-    at = λ e me.
-        let s = notes (meter w mw e me) table in
-        bind_stop _ s (refinements.noted n id i) (through_stop _ _ _ _ (position 0 (refinements_of table n) id) s (sym (ap (λ (y : Noted). placed y mw e me) q) ∙ h.at e me));
-  }
+  note_stopped h = bind_stop _ (notes m table) (refinements.noted n id i) (through_stop _ _ _ _ (position 0 (refinements_of table n) id) (notes m table) h)
 
-  module _ {k k' : ℕ} (q : x ≡ At k k') where
-    note_at : {r : Noted} {table' : List ℕ} → ((e me : ℕ) → on_table r table' mw e me ≡ refinements.noted n id i k (notes (meter k' mw e me) table)) → NotesAs (note n id i) w mw table r table'
+  module _ {k : ℕ} (h : going k t ≡ position 0 (refinements_of table n) id m) where
+    note_at : {y : Run Stop refinements.Notes ℕ} → y ≡ refinements.noted n id i k (notes t table) → y ≡ note n id i (notes m table)
     unfolding note
-    note_at f = record {
-      at = λ e me.
-          let s = notes (meter w mw e me) table in
-          bind_on _ s (refinements.noted n id i) (through_on _ _ _ _ (position 0 (refinements_of table n) id) s (sym (ap (λ (y : Noted). placed y mw e me) q) ∙ h.at e me)) (f e me);
-    }
+    note_at f = bind_on _ (notes m table) (refinements.noted n id i) (through_on _ _ _ _ (position 0 (refinements_of table n) id) (notes m table) h) f
 
-    pub note_old : {o j : Interval} {table' : List ℕ} → k < n → o ≡ (refinement_at table k).restriction → j ≡ meet_of o i → table' ≡ put_refinement table k id j → NotesAs (note n id i) w mw table (At n k') table'
-    note_old l p r d = note_at (λ e me. rw (lt-ltb k n l, d, r, p))
+    pub note_old : {o j : Interval} {table' : List ℕ} → k < n → o ≡ (refinement_at table k).restriction → j ≡ meet_of o i → table' ≡ put_refinement table k id j →
+        going n (notes t table') ≡ note n id i (notes m table)
+    note_old l p r d = note_at (rw (lt-ltb k n l, d, r, p))
 
-    pub note_new : {table' : List ℕ} → n ≤ k → k < length table / row → table' ≡ put_refinement table k id i → NotesAs (note n id i) w mw table (At (n + 1) k') table'
-    note_new l m d = note_at (λ e me. rw (le-ltb k n l, lt-ltb k (length table / row) m, d))
+  module _ (h : going n t ≡ position 0 (refinements_of table n) id m) where
+    pub note_new : {table' : List ℕ} → n < length table / row → table' ≡ put_refinement table n id i → going (n + 1) (notes t table') ≡ note n id i (notes m table)
+    note_new l d = note_at h (rw (le-ltb n n (omega arith), lt-ltb n (length table / row) l, d))
 
-    pub note_full : n ≤ k → length table / row ≤ k → NotesAs (note n id i) w mw table (At n k') table
-    note_full l m = note_at (λ e me. rw (le-ltb k n l, le-ltb k (length table / row) m))
+    pub note_full : length table / row ≤ n → going n (notes t table) ≡ note n id i (notes m table)
+    note_full l = note_at h (rw (le-ltb n n (omega arith), le-ltb n (length table / row) l))
 
 -- ---- a value is narrowed by the first
 
 module _ (constants : List ℕ) (g : ℕ → Refinement) (id : ℕ) (v : Value) where
   -- with the k-th, if there are more
-  abbrev chosen : ℕ → ℕ → Metered Stop Meter Value
+  abbrev pub chosen : ℕ → ℕ → Metered Stop Meter Value
   chosen count k = cond (ltb k count) (narrow constants (g k).restriction v) (pure v)
 
-  abbrev held : {A : Type 0} → Run Stop Meter A → Run Stop Meter A
+  abbrev pub held : {A : Type 0} → Run Stop Meter A → Run Stop Meter A
   held x = mapped (λ m. m) (released (entries_of v)) (λ s. s) x
 
   -- `restrict` is a search and then one narrowing
-  restrict_by : (n k : ℕ) (m : Meter) → after (held (position k (from g k n) id m)) (chosen (k + n)) ≡ restrict constants (from g k n) id v m
+  pub restrict_by : (n k : ℕ) (m : Meter) → after (held (position k (from g k n) id m)) (chosen (k + n)) ≡ restrict constants (from g k n) id v m
   unfolding restrict position from ◌>>◌ ◌>>=◌ after through mapped pure
   restrict_by zero k m = rw (le-ltb k (k + 0) (omega arith)) refl
   restrict_by (suc n) k m = step (work 1 m) (eqb (g k).expression id) (restrict_by n (k + 1))
@@ -181,24 +159,23 @@ module _ (constants : List ℕ) (g : ℕ → Refinement) (id : ℕ) (v : Value) 
       step (going u m') true h = rw (lt-ltb k (k + suc n) (omega arith)) refl
       step (going u m') false h = let e : k + suc n ≡ k + 1 + n = omega arith in rw e (h m')
 
-  module _ (count w mw e me : ℕ) {x : Noted} (h : Places (position 0 (from g 0 count) id) w mw x) where
-    by_place : after (held (placed x mw e me)) (chosen count) ≡ restrict constants (from g 0 count) id v (meter w mw e me)
-    by_place = let z : 0 + count ≡ count = omega arith in ap (λ (y : Run Stop Meter ℕ). after (held y) (chosen count)) (h.at e me) ∙ (rw z at (restrict_by count 0 (meter w mw e me)))
+  module _ (count : ℕ) (m : Meter) where
+    by_place : {y : Run Stop Meter ℕ} → y ≡ position 0 (from g 0 count) id m → after (held y) (chosen count) ≡ restrict constants (from g 0 count) id v m
+    by_place h = let z : 0 + count ≡ count = omega arith in ap (λ (y : Run Stop Meter ℕ). after (held y) (chosen count)) h ∙ (rw z at (restrict_by count 0 m))
 
-    pub restrict_stops : {s : Stop} {n held rest : ℕ} → x ≡ noted.Stopped s n → held ≡ entries_of v → rest ≡ e - held → stopped s (meter n mw rest me) ≡ restrict constants (from g 0 count) id v (meter w mw e me)
-    unfolding after mapped
-    restrict_stops q p r = rw (r, p) (rw q at by_place)
-
-    module _ {k n : ℕ} (q : x ≡ At k n) where
-      at_place : chosen count k (meter n mw e me) ≡ restrict constants (from g 0 count) id v (meter w mw e me)
+    module _ {t : Meter} where
+      pub restrict_stopped : {s : Stop} {left : Meter} {n : ℕ} → stopped s t ≡ position 0 (from g 0 count) id m → n ≡ entries_of v → left ≡ released n t → stopped s left ≡ restrict constants (from g 0 count) id v m
       unfolding after mapped
-      at_place = rw q at by_place
+      restrict_stopped h q r = rw (r, q) (by_place h)
 
-      pub restrict_found : {j : Interval} {y : Run Stop Meter Value} → k < count → j ≡ (g k).restriction → y ≡ narrow constants j v (meter n mw e me) → y ≡ restrict constants (from g 0 count) id v (meter w mw e me)
-      restrict_found l d a = a ∙ ap (λ (j : Interval). narrow constants j v (meter n mw e me)) d ∙ (rw (lt-ltb k count l) at at_place)
+      pub restrict_one : {k : ℕ} {j : Interval} {y : Run Stop Meter Value} → going k t ≡ position 0 (from g 0 count) id m → k < count → j ≡ (g k).restriction → y ≡ narrow constants j v t →
+          y ≡ restrict constants (from g 0 count) id v m
+      unfolding after mapped
+      restrict_one {k} h l d a = a ∙ ap (λ (j : Interval). narrow constants j v t) d ∙ (rw (lt-ltb k count l) at (by_place h))
 
-      pub restrict_ends : count ≤ k → going v (meter n mw e me) ≡ restrict constants (from g 0 count) id v (meter w mw e me)
-      restrict_ends l = pure_is v (meter n mw e me) ∙ (rw (le-ltb k count l) at at_place)
+      pub restrict_none : going count t ≡ position 0 (from g 0 count) id m → going v t ≡ restrict constants (from g 0 count) id v m
+      unfolding after mapped
+      restrict_none h = pure_is v t ∙ (rw (le-ltb count count (omega arith)) at (by_place h))
 
 -- ---- a numeric value
 
@@ -221,50 +198,48 @@ meet_numeric constants Unbounded Bottom = refl
 meet_numeric constants Unbounded (Bounded c d) = ap (λ (v : Value). pure {E = Stop} {S = Meter} v) (sym (plain (meet_of Unbounded (Bounded c d))))
 meet_numeric constants Unbounded Unbounded = refl
 
-refine_numeric : (constants : List ℕ) (i j : Interval) (m : Meter) → (work 1 >> pure (numeric (meet_of i j))) m ≡ refine constants (numeric i) j m
+pub refine_numeric : (constants : List ℕ) (i j : Interval) (m : Meter) → (work 1 >> pure (numeric (meet_of i j))) m ≡ refine constants (numeric i) j m
 unfolding refine meet
 refine_numeric constants i j m = ap (λ (k : Metered Stop Meter Value). (work 1 >> k) m) (meet_numeric constants i j)
 
-numeric_integer : (i : Interval) → integer? (numeric i) ≡ true
+pub numeric_integer : (i : Interval) → integer? (numeric i) ≡ true
 numeric_integer Bottom = refl
 numeric_integer (Bounded low high) = refl
 numeric_integer Unbounded = refl
 
-module _ (constants : List ℕ) (i j : Interval) (w mw e me : ℕ) {x : Charged} (c : x ≡ charge_of Work w 1 mw) where
+module _ (constants : List ℕ) (i j : Interval) (m : Meter) where
   -- no entries are dropped
-  narrow_numeric : {y : Run Stop Meter Value} → y ≡ dropping 0 (refine constants (numeric i) j) (meter w mw e me) → y ≡ narrow constants j (numeric i) (meter w mw e me)
-  narrow_numeric h = yes_on _ _ (meter w mw e me) (numeric_integer i) (rw (← numeric_none i) h)
+  narrow_numeric : {y : Run Stop Meter Value} → y ≡ dropping 0 (refine constants (numeric i) j) m → y ≡ narrow constants j (numeric i) m
+  narrow_numeric h = yes_on _ _ m (numeric_integer i) (rw (← numeric_none i) h)
 
-  pub numeric_stopped : {s : Stop} {n : ℕ} → x ≡ charged.Stopped s n → stopped s (meter n mw e me) ≡ narrow constants j (numeric i) (meter w mw e me)
-  numeric_stopped {s} {n} q =
+  pub numeric_stopped : {s : Stop} {t : Meter} → stopped s t ≡ work 1 m → stopped s t ≡ narrow constants j (numeric i) m
+  numeric_stopped {s} {t} q =
       narrow_numeric
-      (ap (λ (k : ℕ). stopped s (meter n mw k me)) (sym (sub-zero e))
-      ∙ drop_stop 0 (refine constants (numeric i) j) (meter w mw e me) (then_stop (work 1) _ (pure (numeric (meet_of i j))) (work_stopped w mw e me 1 c q) ∙ refine_numeric constants i j (meter w mw e me)))
+      (ap (λ (k : ℕ). stopped s (with_entries k t)) (sym (sub-zero t.entries))
+      ∙ drop_stop 0 (refine constants (numeric i) j) m (then_stop (work 1) m (pure (numeric (meet_of i j))) q ∙ refine_numeric constants i j m))
 
-  pub numeric_met : {n : ℕ} {k : Interval} → x ≡ Paid n → k ≡ meet_of i j → going (numeric k) (meter n mw e me) ≡ narrow constants j (numeric i) (meter w mw e me)
-  numeric_met {n} q p =
+  pub numeric_met : {t : Meter} {k : Interval} → going tt t ≡ work 1 m → k ≡ meet_of i j → going (numeric k) t ≡ narrow constants j (numeric i) m
+  numeric_met {t} q p =
       narrow_numeric
-      (ap (λ (k : Interval). going (numeric k) (meter n mw e me)) p ∙ ap (λ (k : ℕ). going (numeric (meet_of i j)) (meter n mw k me)) (sym (sub-zero e))
-      ∙ drop_on 0 (refine constants (numeric i) j) (meter w mw e me)
-      (then_on (work 1) _ (pure (numeric (meet_of i j))) (work_paid w mw e me 1 c q) (pure_is _ _) ∙ refine_numeric constants i j (meter w mw e me)))
+      (ap (λ (k : Interval). going (numeric k) t) p ∙ ap (λ (k : ℕ). going (numeric (meet_of i j)) (with_entries k t)) (sym (sub-zero t.entries))
+      ∙ drop_on 0 (refine constants (numeric i) j) m
+      (then_on (work 1) m (pure (numeric (meet_of i j))) q (pure_is _ _) ∙ refine_numeric constants i j m))
 
 -- ---- narrowed by the first
 
-module _ (g : ℕ → Refinement) (id count : ℕ) (i : Interval) (w mw : ℕ) {x : Noted} (h : Places (position 0 (from g 0 count) id) w mw x) where
-  pub interval_stopped : {s : Stop} {n : ℕ} → x ≡ noted.Stopped s n → Restricts (from g 0 count) id i w mw (narrowed.Stopped s n)
-  interval_stopped q = record { at = λ constants e me. restrict_stops constants g id (numeric i) count w mw e me h q (numeric_none i) (sym (sub-zero e)) }
+module _ (g : ℕ → Refinement) (id count : ℕ) (i : Interval) (m : Meter) {t : Meter} where
+  pub interval_stopped : {s : Stop} → stopped s t ≡ position 0 (from g 0 count) id m → (constants : List ℕ) → stopped s t ≡ restrict constants (from g 0 count) id (numeric i) m
+  interval_stopped {s} h constants = restrict_stopped constants g id (numeric i) count m h (numeric_none i) (ap (λ (k : ℕ). with_entries k t) (sym (sub-zero t.entries)))
 
-  module _ {k n : ℕ} (q : x ≡ At k n) where
-    pub interval_free : count ≤ k → Restricts (from g 0 count) id i w mw (To i n)
-    interval_free l = record { at = λ constants e me. restrict_ends constants g id (numeric i) count w mw e me h q l }
+  pub interval_free : going count t ≡ position 0 (from g 0 count) id m → (constants : List ℕ) → going (numeric i) t ≡ restrict constants (from g 0 count) id (numeric i) m
+  interval_free h constants = restrict_none constants g id (numeric i) count m h
 
-    module _ (l : k < count) {y : Charged} (c : y ≡ charge_of Work n 1 mw) where
-      pub interval_refused : {s : Stop} {j : ℕ} → y ≡ charged.Stopped s j → Restricts (from g 0 count) id i w mw (narrowed.Stopped s j)
-      interval_refused p = record { at = λ constants e me. restrict_found constants g id (numeric i) count w mw e me h q l refl (numeric_stopped constants i (g k).restriction n mw e me c p) }
+  module _ {k : ℕ} (h : going k t ≡ position 0 (from g 0 count) id m) (l : k < count) {u : Meter} where
+    pub interval_refused : {s : Stop} → stopped s u ≡ work 1 t → (constants : List ℕ) → stopped s u ≡ restrict constants (from g 0 count) id (numeric i) m
+    interval_refused p constants = restrict_one constants g id (numeric i) count m h l refl (numeric_stopped constants i (g k).restriction t p)
 
-      pub interval_met : {j : ℕ} {r z : Interval} → y ≡ Paid j → r ≡ (g k).restriction → z ≡ meet_of i r → Restricts (from g 0 count) id i w mw (To z j)
-      interval_met p d f =
-          record { at = λ constants e me. restrict_found constants g id (numeric i) count w mw e me h q l refl (numeric_met constants i (g k).restriction n mw e me c p (f ∙ ap (meet_of i) d)) }
+    pub interval_met : {r z : Interval} → going tt u ≡ work 1 t → r ≡ (g k).restriction → z ≡ meet_of i r → (constants : List ℕ) → going (numeric z) u ≡ restrict constants (from g 0 count) id (numeric i) m
+    interval_met p d f constants = restrict_one constants g id (numeric i) count m h l refl (numeric_met constants i (g k).restriction t p (f ∙ ap (meet_of i) d))
 
 -- ---- what is numeric stays so
 

@@ -1,2 +1,4 @@
 pub mod CodeLaws
 pub mod Theorems
+pub mod Limits
+pub mod Counts

@@ -1,5 +1,5 @@
--- The code's answers with the lent table at exit, as what the monad gives: work is a number in the code and a part of the meter here.
-use Rattle.std.specs.Prelude.{ℕ, ◌≡◌, List}
+-- For the crates above that still hand counts through as numbers: their code's answers with the lent table at exit, as what the monad gives.
+use Rattle.std.specs.Prelude.{ℕ, ◌≡◌, List, Option, Result, Ok, Err}
 use Rattle.limits.specs.declared.Stop.{Stop}
 use Rattle.limits.specs.Metered.{Run, going, stopped, Metered}
 use Rattle.limits.specs.declared.Meter.{Meter}
@@ -7,13 +7,13 @@ use Rattle.limits.specs.Meter.{meter}
 use Rattle.interval.specs.declared.Interval.{Interval}
 use Rattle.lattice.specs.Value.{Value}
 use Rattle.lattice.specs.Lattice.{numeric}
-use Rattle.refinements.specs.declared.Noted.{Noted}
-use Rattle.refinements.specs.declared.Noted.TheVariants.{At}
-use Rattle.refinements.specs.declared.Noted.TheVariants as noted
-use Rattle.refinements.specs.declared.Narrowed.{Narrowed}
-use Rattle.refinements.specs.declared.Narrowed.TheVariants.{To}
-use Rattle.refinements.specs.declared.Narrowed.TheVariants as narrowed
-use Rattle.refinements.specs.Refinement.{Refinement, Notes, notes, restrict}
+use Rattle.refinements.specs.declared.bridge.Noted.{Noted}
+use Rattle.refinements.specs.declared.bridge.Noted.TheVariants.{At}
+use Rattle.refinements.specs.declared.bridge.Noted.TheVariants as noted
+use Rattle.refinements.specs.declared.bridge.Narrowed.{Narrowed}
+use Rattle.refinements.specs.declared.bridge.Narrowed.TheVariants.{To}
+use Rattle.refinements.specs.declared.bridge.Narrowed.TheVariants as narrowed
+use Rattle.refinements.specs.Refinement.{Refinement, Notes, notes, place, restrict}
 
 abbrev pub placed : Noted → ℕ → ℕ → ℕ → Run Stop Meter ℕ
 placed (At k w) mw e me = going k (meter w mw e me)
@@ -38,3 +38,8 @@ on_table (noted.Stopped s w) table mw e me = stopped s (notes (meter w mw e me) 
 -- what m makes of the table, whatever entries are live
 pub record NotesAs (m : Metered Stop Notes ℕ) (work max_work : ℕ) (table : List ℕ) (r : Noted) (table' : List ℕ) : Type 0 where
   pub at : (e me : ℕ) → on_table r table' max_work e me ≡ m (notes (meter work max_work e me) table)
+
+-- the code's answer and the meter that it leaves, by the work alone
+abbrev pub placed_of : ℕ → Result (Option ℕ) Stop → Meter → Noted
+placed_of count (Ok p) m = At (place count p) m.work
+placed_of count (Err s) m = noted.Stopped s m.work

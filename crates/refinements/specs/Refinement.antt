@@ -1,6 +1,6 @@
 -- What guards have found of expressions (`refinements` of transfer.rs): an expression's id and an interval in which its value lies, a row of a
 -- lent table for each. Cells beyond the table read as 0 and are not written.
-use Rattle.std.specs.Prelude.{ℕ, ◌+◌, ◌*◌, ◌/◌, ◌%◌, ◌^◌, Bool, true, false, cond, List, [], ◌∷◌, ltb, eqb, length, get_or}
+use Rattle.std.specs.Prelude.{ℕ, ◌+◌, ◌*◌, ◌/◌, ◌%◌, ◌^◌, Bool, true, false, cond, Option, None, Some, List, [], ◌∷◌, ltb, eqb, length, get_or}
 use Rattle.std.proofs.lemmas.List.Edits.{sets}
 use Rattle.integers.specs.Lists.{from}
 use Rattle.limits.specs.declared.Stop.{Stop}
@@ -58,6 +58,11 @@ restrict constants (r ∷ rs) id v = holding (entries_of v) (work 1) >> cond (eq
 unfoldable pub position : ℕ → List Refinement → ℕ → Metered Stop Meter ℕ
 position k [] id = pure k
 position k (r ∷ rs) id = work 1 >> cond (eqb r.expression id) (pure k) (position (k + 1) rs id)
+
+-- where a search that finds nothing stands at the end
+abbrev pub place : ℕ → Option ℕ → ℕ
+place n None = n
+place n (Some k) = k
 
 pub record Notes : Type 0 where
   pub meter : Meter

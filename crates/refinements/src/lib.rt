@@ -2,31 +2,25 @@
 //! Cells beyond the table read as 0 and are not written; any contents read as refinements.
 #![tactic(auto)]
 
-ghost use Rattle.std.specs.Prelude.{◌≡◌, min, ◌*◌};
-ghost use Rattle.limits.specs.Meter.{meter};
+ghost use Rattle.std.specs.Prelude.{ℕ, List, ◌≡◌, ◌<◌, min, ◌*◌, IfOk, IfSome};
+ghost use Rattle.limits.specs.Metered.{answered};
+ghost use Rattle.lists.specs.Ids.{seen};
 ghost use Rattle.lattice.specs.Value.{value_of};
-ghost use Rattle.lattice.specs.Answers.{made};
-ghost use Rattle.refinements.specs.Refinement.{row, refinement_at, refinements_of, put_refinement, integer?, narrow, restrict, position, note};
-ghost use Rattle.refinements.specs.Answers.{Places, Restricts, NotesAs};
+ghost use Rattle.lattice.specs.Lattice.{numeric};
+ghost use Rattle.lattice.specs.Answers.{answered_value};
+ghost use Rattle.refinements.specs.Refinement.{row, refinement_at, refinements_of, put_refinement, integer?, narrow, restrict, place, position, notes, note};
 
 use cells::{cell_at, of_cell, put_cell};
 use interval::{Integrality, Interval};
-use lattice::{Abstract, Made, Outcome};
-use limits::{Charged, Resource, Stop};
+use lattice::Abstract;
+use limits::{Meter, Stop};
 
-// A number, a place or how many there are, with the work after it.
-#[derive(Clone, Copy)]
-pub enum Noted {
-    At(usize, u64),
-    Stopped(Stop, u64),
-}
+mod bridge;
 
-// The interval of a numeric value, with the work after it.
-#[derive(Clone, Copy)]
-pub enum Narrowed {
-    To(Interval, u64),
-    Stopped(Stop, u64),
-}
+pub use bridge::{
+    Narrowed, Noted, narrow_counted, note_counted, position_counted, restrict_counted,
+    restrict_interval_counted,
+};
 
 // The cells of a row: the expression's id, the interval's case and its two ends.
 pub const ROW: usize = 4;
@@ -45,7 +39,7 @@ fn expression_at(cells: &[u32], k: usize) -> u64
     ensures { result ≡ (refinement_at cells.now k).expression }
 {
     let at = start(cells.len(), k);
-    cell_at(cells, at) as u64
+    u64::from(cell_at(cells, at))
 }
 
 // The interval of one of them.
@@ -75,12 +69,7 @@ fn put_refinement(cells: &mut [u32], k: usize, id: u64, restriction: Interval)
 fn is_integer(value: Abstract) -> bool
     ensures { result ≡ integer? (value_of value) }
 {
-    let bound = value.bound;
-    let integrality = bound.integrality;
-    match integrality {
-        Integrality::Integer => true,
-        Integrality::Mixed => false,
-    }
+    matches!(value.bound.integrality, Integrality::Integer)
 }
 
 // A value that holds numbers alone is narrowed, and dropped on every way out.
@@ -88,61 +77,35 @@ pub fn narrow(
     value: Abstract,
     restriction: Interval,
     constants: &[u32],
-    work: u64,
-    max_work: u64,
-    entries: u64,
-    max_entries: u64,
-) -> Made
-    ensures { made result max_work max_entries ≡ narrow constants.now restriction (value_of value) (meter work max_work entries max_entries) }
+    meter: &mut Meter,
+) -> Result<Abstract, Stop>
+    ensures { answered_value result meter.new ≡ narrow constants.now restriction (value_of value) meter.old }
 {
-    if is_integer(value) {
-        let new = value.refine_counted(
-            restriction,
-            constants,
-            work,
-            max_work,
-            entries,
-            max_entries,
-        );
-        let outcome = new.outcome;
-        let narrowed = new.value;
-        let left = limits::release(new.entries, rows::entries_of(value));
-        return Made {
-            outcome,
-            value: narrowed,
-            work: new.work,
-            entries: left,
-        };
+    if !is_integer(value) {
+        return Ok(value);
     }
-    Made {
-        outcome: Outcome::Done,
-        value,
-        work,
-        entries,
-    }
+    let narrowed = value.refine(restriction, constants, meter);
+    meter.release(rows::entries_of(value));
+    narrowed
 }
 
-// The place of an expression's first refinement, or the end.
-pub fn position(refinements: &[u32], count: usize, id: u64, work: u64, max_work: u64) -> Noted
-    ensures { Places (position 0 (refinements_of refinements.now count) id) work max_work result }
+// The place of an expression's first refinement, if it has one.
+pub fn position(
+    refinements: &[u32],
+    count: usize,
+    id: u64,
+    meter: &mut Meter,
+) -> Result<Option<usize>, Stop>
+    ensures place { seen (place count) result meter.new ≡ position 0 (refinements_of refinements.now count) id meter.old }
+    ensures within { IfOk result (λ p. IfSome p (λ k. k < count)) }
 {
-    let mut spent = work;
-    let mut k: usize = 0;
-    while k < count {
-        match limits::charge(Resource::Work, spent, 1, max_work) {
-            Charged::Stopped(stop, now) => {
-                return Noted::Stopped(stop, now);
-            }
-            Charged::Paid(now) => {
-                spent = now;
-            }
-        }
+    for k in 0..count {
+        meter.work(1)?;
         if expression_at(refinements, k) == id {
-            return Noted::At(k, spent);
+            return Ok(Some(k));
         }
-        k += 1;
     }
-    Noted::At(k, spent)
+    Ok(None)
 }
 
 // The end of `expression`: what is known of an expression narrows its value.
@@ -152,38 +115,16 @@ pub fn restrict(
     count: usize,
     id: u64,
     constants: &[u32],
-    work: u64,
-    max_work: u64,
-    entries: u64,
-    max_entries: u64,
-) -> Made
-    ensures { made result max_work max_entries ≡ restrict constants.now (refinements_of refinements.now count) id (value_of value) (meter work max_work entries max_entries) }
+    meter: &mut Meter,
+) -> Result<Abstract, Stop>
+    ensures { answered_value result meter.new ≡ restrict constants.now (refinements_of refinements.now count) id (value_of value) meter.old }
 {
-    match position(refinements, count, id, work, max_work) {
-        Noted::Stopped(stop, now) => Made {
-            outcome: Outcome::Stopped(stop),
-            value,
-            work: now,
-            entries: limits::release(entries, rows::entries_of(value)),
-        },
-        Noted::At(k, now) => {
-            if k < count {
-                return narrow(
-                    value,
-                    restriction_at(refinements, k),
-                    constants,
-                    now,
-                    max_work,
-                    entries,
-                    max_entries,
-                );
-            }
-            Made {
-                outcome: Outcome::Done,
-                value,
-                work: now,
-                entries,
-            }
+    match position(refinements, count, id, meter) {
+        Ok(Some(k)) => narrow(value, restriction_at(refinements, k), constants, meter),
+        Ok(None) => Ok(value),
+        Err(stop) => {
+            meter.release(rows::entries_of(value));
+            Err(stop)
         }
     }
 }
@@ -194,24 +135,16 @@ pub fn restrict_interval(
     refinements: &[u32],
     count: usize,
     id: u64,
-    work: u64,
-    max_work: u64,
-) -> Narrowed
-    ensures { Restricts (refinements_of refinements.now count) id interval work max_work result }
+    meter: &mut Meter,
+) -> Result<Interval, Stop>
+    ensures { (constants : List ℕ) → seen numeric result meter.new ≡ restrict constants (refinements_of refinements.now count) id (numeric interval) meter.old }
 {
-    match position(refinements, count, id, work, max_work) {
-        Noted::Stopped(stop, now) => Narrowed::Stopped(stop, now),
-        Noted::At(k, now) => {
-            if count <= k {
-                return Narrowed::To(interval, now);
-            }
-            match limits::charge(Resource::Work, now, 1, max_work) {
-                Charged::Stopped(stop, spent) => Narrowed::Stopped(stop, spent),
-                Charged::Paid(spent) => {
-                    Narrowed::To(interval.meet(restriction_at(refinements, k)), spent)
-                }
-            }
+    match position(refinements, count, id, meter)? {
+        Some(k) => {
+            meter.work(1)?;
+            Ok(interval.meet(restriction_at(refinements, k)))
         }
+        None => Ok(interval),
     }
 }
 
@@ -221,24 +154,18 @@ pub fn note(
     count: usize,
     id: u64,
     restriction: Interval,
-    work: u64,
-    max_work: u64,
-) -> Noted
-    ensures { NotesAs (note count id restriction) work max_work refinements.old result refinements.new }
+    meter: &mut Meter,
+) -> Result<usize, Stop>
+    ensures { answered result (notes meter.new refinements.new) ≡ note count id restriction (notes meter.old refinements.old) }
 {
-    match position(refinements, count, id, work, max_work) {
-        Noted::Stopped(stop, now) => Noted::Stopped(stop, now),
-        Noted::At(k, now) => {
-            if k < count {
-                let old = restriction_at(refinements, k);
-                put_refinement(refinements, k, id, old.meet(restriction));
-                return Noted::At(count, now);
-            }
-            if k < refinements.len() / ROW {
-                put_refinement(refinements, k, id, restriction);
-                return Noted::At(count + 1, now);
-            }
-            Noted::At(count, now)
-        }
+    if let Some(k) = position(refinements, count, id, meter)? {
+        let old = restriction_at(refinements, k);
+        put_refinement(refinements, k, id, old.meet(restriction));
+        return Ok(count);
     }
+    if count < refinements.len() / ROW {
+        put_refinement(refinements, count, id, restriction);
+        return Ok(count + 1);
+    }
+    Ok(count)
 }

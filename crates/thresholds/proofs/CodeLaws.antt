@@ -21,10 +21,7 @@ use Rattle.limits.proofs.Answering as answering
 use Rattle.limits.proofs.Monad.{then_stop, then_on}
 use Rattle.search.specs.Seek.{Place, found, absent}
 use Rattle.search.proofs.Complete.{absent_within}
-use Rattle.thresholds.specs.declared.Entered.{Entered}
-use Rattle.thresholds.specs.declared.Entered.TheVariants.{Done, Stopped}
 use Rattle.thresholds.specs.Thresholds.{Entry, entry, against, seek_number, cost, insert, settle, enter, enter_some, enter_number, around}
-use Rattle.thresholds.specs.Answers.{entered}
 
 -- ---- the ways of `enter`
 
@@ -60,15 +57,6 @@ some_number z None s h = go (number? z) refl
     go : (b : Bool) → number? z ≡ b → pure tt s ≡ cond b (enter z) (pure tt) s
     go true e = absurd (h (number_fits z (number_yes z e)))
     go false e = refl
-
--- ---- an answer, by its case, as what the monad gives
-
-module _ {r : Entered} {t : List ℤ} {x : Run Stop Entry (Unit {0})} {b : Budget} {n : ℕ} where
-  pub went : r ≡ Done b n → entered r t ≡ x → going tt (entry b n t) ≡ x
-  went e h = sym (ap (λ (y : Entered). entered y t) e) ∙ h
-
-  pub halted : {e : Stop} → r ≡ Stopped e b n → entered r t ≡ x → stopped e (entry b n t) ≡ x
-  halted e h = sym (ap (λ (y : Entered). entered y t) e) ∙ h
 
 -- ---- the ways of `around`
 

@@ -1,2 +1,1 @@
 pub mod Thresholds
-pub mod Answers

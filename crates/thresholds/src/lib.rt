@@ -4,7 +4,6 @@
 ghost use Rattle.std.specs.Prelude.{◌≡◌, ◌+◌, ◌≤◌, ◌<◌, length};
 ghost use Rattle.limits.specs.Metered.{answered};
 ghost use Rattle.thresholds.specs.Thresholds.{entry, seek_number, cost, enter, enter_some, around};
-ghost use Rattle.thresholds.specs.Answers.{entered};
 
 use limits::{Budget, Meter, Resource, Stop};
 
@@ -79,24 +78,4 @@ pub fn enter_around(
     enter_some(table, count, value.checked_sub(1), budget)?;
     enter(table, count, value, budget)?;
     enter_some(table, count, value.checked_add(1), budget)
-}
-
-// What is left: the budget, and how many thresholds stand.
-#[derive(Clone, Copy)]
-pub enum Entered {
-    Done(Budget, usize),
-    Stopped(Stop, Budget, usize),
-}
-
-// `enter` over counts by value, for the crates above that hand them through.
-pub fn enter_counted(table: &mut [i32], count: usize, value: i32, budget: Budget) -> Entered
-    requires { count < length table.old }
-    ensures { entered result table.new ≡ enter value (entry budget count table.old) }
-{
-    let mut n = count;
-    let mut left = budget;
-    match enter(table, &mut n, value, &mut left) {
-        Ok(()) => Entered::Done(left, n),
-        Err(stop) => Entered::Stopped(stop, left, n),
-    }
 }

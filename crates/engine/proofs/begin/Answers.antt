@@ -1,19 +1,16 @@
 -- `engine::begin` meets its contract.
+use Rattle.limits.proofs.Answering.{went, broke, exits}
 use Rattle.thresholds.specs.Thresholds.{entry}
-use Rattle.engine.proofs.CodeLaws.{begin_stopped, seed_stopped, seed_paid}
+use Rattle.engine.specs.Run.{start}
+use Rattle.engine.proofs.CodeLaws.{begin_stopped, begin_on}
 use Rattle.engine.proofs.begin.Goals as goal
 
-pub returns-in-Stopped : goal.returns-in-Stopped
-returns-in-Stopped c =
-    let a = c.args in
-    begin_stopped a.seeds.now a.positions (entry a.budget a.count a.thresholds.now) a.current.now a.growth.now _ c.enter_ends.ensures c.in-Stopped.is
+pub returns-in_err-enter_ends : goal.returns-in_err-enter_ends
+returns-in_err-enter_ends c =
+    exits _ c.from_residual.ensures.1
+    (begin_stopped c.args.seeds.now c.args.positions (entry c.args.budget.now c.args.count.now c.args.thresholds.now) c.args.current.now c.args.growth.now (broke c.enter_ends.ensures c.in_err-enter_ends.was))
 
-pub returns-in-Stopped-seed : goal.returns-in-Stopped-seed
-returns-in-Stopped-seed c =
-    let a = c.args in
-    seed_stopped a.seeds.now a.positions (entry a.budget a.count a.thresholds.now) a.current.now a.growth.now _ c.enter_ends.ensures c.in-Done.is _ _ c.seed.ensures c.in-Stopped-seed.is
-
-pub returns-in-Paid : goal.returns-in-Paid
-returns-in-Paid c =
-    let a = c.args in
-    seed_paid a.seeds.now a.positions (entry a.budget a.count a.thresholds.now) a.current.now a.growth.now _ c.enter_ends.ensures c.in-Done.is _ _ c.seed.ensures c.in-Paid.is
+pub returns : goal.returns
+returns c =
+    begin_on c.args.seeds.now c.args.positions (entry c.args.budget.now c.args.count.now c.args.thresholds.now) c.args.current.now c.args.growth.now c.seed.result
+    (start c.seed.new.budget c.seed.new.current c.seed.new.growth) (went c.enter_ends.ensures c.in_ok-enter_ends.was) c.seed.ensures

@@ -47,7 +47,7 @@ returns-in-Slot t c =
 pub returns-in-Unknown : goal.returns-in-Unknown
 returns-in-Unknown t c =
     let a = c.args in
-    seen_node (input a.nodes.now a.constants.now a.width) a.slots.now (refinements_of a.refinements.now a.count) a.id a.work a.max_work a.entries a.max_entries c.charge.ensures c.in-Paid.is c.expression_at.ensures c.operand_of-in-Unknown.ensures (unknown_node (input a.nodes.now a.constants.now a.width) a.slots.now (refinements_of a.refinements.now a.count) a.id a.work a.max_work a.entries a.max_entries c.charge.ensures c.in-Paid.is c.expression_at.ensures c.in-Unknown.is c.unknown-value.ensures c.restrict.ensures)
+    seen_node (input a.nodes.now a.constants.now a.width) a.slots.now (refinements_of a.refinements.now a.count) a.id a.work a.max_work a.entries a.max_entries c.charge.ensures c.in-Paid.is c.expression_at.ensures c.operand_of-in-Unknown.ensures (unknown_node (input a.nodes.now a.constants.now a.width) a.slots.now (refinements_of a.refinements.now a.count) a.id a.work a.max_work a.entries a.max_entries c.charge.ensures c.in-Paid.is c.expression_at.ensures c.in-Unknown.is c.unknown-value.ensures c.restrict_counted.ensures)
 
 pub returns-in-Stopped-as_operand : goal.returns-in-Stopped-as_operand
 returns-in-Stopped-as_operand t c =

@@ -23,7 +23,7 @@ returns-in-Slot c =
 pub returns-in-Unknown : goal.returns-in-Unknown
 returns-in-Unknown c =
     let a = c.args in
-    unknown_node (input a.nodes.now a.constants.now a.width) a.slots.now (refinements_of a.refinements.now a.count) a.id a.work a.max_work a.entries a.max_entries c.charge.ensures c.in-Paid.is c.expression_at.ensures c.in-Unknown.is c.unknown-value.ensures c.restrict.ensures
+    unknown_node (input a.nodes.now a.constants.now a.width) a.slots.now (refinements_of a.refinements.now a.count) a.id a.work a.max_work a.entries a.max_entries c.charge.ensures c.in-Paid.is c.expression_at.ensures c.in-Unknown.is c.unknown-value.ensures c.restrict_counted.ensures
 
 pub returns-in-Unary : goal.returns-in-Unary
 returns-in-Unary c =

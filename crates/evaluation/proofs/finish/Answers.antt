@@ -17,4 +17,4 @@ returns-in-Stopped c =
 pub returns-in-Done : goal.returns-in-Done
 returns-in-Done c =
     let a = c.args in
-    finish_done (restrict a.constants.now (refinements_of a.refinements.now a.count) a.id) a.node a.max_work a.max_entries c.in-Done.is c.restrict.ensures
+    finish_done (restrict a.constants.now (refinements_of a.refinements.now a.count) a.id) a.node a.max_work a.max_entries c.in-Done.is c.restrict_counted.ensures

@@ -6,7 +6,7 @@ use Rattle.evaluation.proofs.narrow_slot.Goals as goal
 pub returns-then-is_listed : goal.returns-then-is_listed
 returns-then-is_listed c =
     let a = c.args in
-    listed_narrowed a.constants.now a.restriction (value_at a.slots.now a.slot) a.work a.max_work a.entries a.max_entries c.abstract_at-value.ensures c.narrow.ensures c.operand_of.ensures
+    listed_narrowed a.constants.now a.restriction (value_at a.slots.now a.slot) a.work a.max_work a.entries a.max_entries c.abstract_at-value.ensures c.narrow_counted.ensures c.operand_of.ensures
 
 pub returns : goal.returns
 returns c =

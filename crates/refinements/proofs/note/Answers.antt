@@ -1,24 +1,19 @@
 -- `refinements::note` meets its contract.
 use native.Mathlib.Omega.{arith}
-use Rattle.refinements.proofs.CodeLaws.{note_old, note_new, note_stopped, note_full}
+use Rattle.limits.proofs.Answering.{exits}
+use Rattle.refinements.proofs.CodeLaws.{note_stopped, note_old, note_new, note_full}
 use Rattle.refinements.proofs.note.Goals as goal
 
-pub returns-then-k-count : goal.returns-then-k-count
-returns-then-k-count c =
-    let a = c.args in
-    note_old a.count a.id a.restriction c.position.ensures c.in-At.is c.if-k-count.true c.restriction_at-old.ensures c.meet.ensures c.put_refinement.ensures
+pub returns-in_err-k : goal.returns-in_err-k
+returns-in_err-k c = exits c.from_residual.result c.from_residual.ensures.1 (note_stopped c.args.count c.args.id c.args.restriction _ _ c.in_err-k.ensures.place)
 
-pub returns-then-k-refinements : goal.returns-then-k-refinements
-returns-then-k-refinements c =
-    let a = c.args in
-    note_new a.count a.id a.restriction c.position.ensures c.in-At.is (omega (arith, c.if-k-count.false)) c.if-k-refinements.true c.put_refinement-then-k-refinements.ensures
+pub returns-in-Some : goal.returns-in-Some
+returns-in-Some c =
+    note_old c.args.count c.args.id c.args.restriction _ _ (rw c.in-Some.is at c.in_ok-k.ensures.place) (rw c.in-Some.is at c.in_ok-k.ensures.within) c.restriction_at-old.ensures c.meet.ensures c.put_refinement.ensures
 
-pub returns-in-Stopped : goal.returns-in-Stopped
-returns-in-Stopped c =
-    let a = c.args in
-    note_stopped a.count a.id a.restriction c.position.ensures c.in-Stopped.is
+pub returns-then-count-refinements : goal.returns-then-count-refinements
+returns-then-count-refinements c =
+    note_new c.args.count c.args.id c.args.restriction _ _ (rw c.in_default.is at c.in_ok-k.ensures.place) c.if-count-refinements.true c.put_refinement-then-count-refinements.ensures
 
-pub returns-else-k-refinements : goal.returns-else-k-refinements
-returns-else-k-refinements c =
-    let a = c.args in
-    note_full a.count a.id a.restriction c.position.ensures c.in-At.is (omega (arith, c.if-k-count.false)) (omega (arith, c.if-k-refinements.false))
+pub returns : goal.returns
+returns c = note_full c.args.count c.args.id c.args.restriction _ _ (rw c.in_default.is at c.in_ok-k.ensures.place) (omega (arith, c.if-count-refinements.false))

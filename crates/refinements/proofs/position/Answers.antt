@@ -1,24 +1,21 @@
 -- `refinements::position` meets its contract.
 use native.Mathlib.Omega.{arith}
-use Rattle.refinements.proofs.CodeLaws.{seek_begun, seek_stops, seek_found, seek_more, seek_ends}
+use Rattle.lists.proofs.Seen.{seen_exits}
+use Rattle.refinements.specs.Refinement.{place}
+use Rattle.refinements.proofs.CodeLaws.{seeking, seek_none, seek_stopped, seek_found, seek_more}
 use Rattle.refinements.proofs.position.Goals as goal
 
 pub loop-k-init : goal.loop-k-init
-loop-k-init c = seek_begun _ _ _ _ _
+loop-k-init c = seeking _ _ _ _
 
-pub returns-in-Stopped : goal.returns-in-Stopped
-returns-in-Stopped c = seek_stops _ _ c.loop-k.invariant c.loop-k-test.true c.charge.ensures c.in-Stopped.is
+pub returns-in_err-work-clause-place : goal.returns-in_err-work-clause-place
+returns-in_err-work-clause-place c = seen_exits (place c.args.count) c.from_residual.result c.from_residual.ensures.1 (seek_stopped _ _ _ _ c.loop-k.invariant c.loop-k-test.true c.in_err-work.ensures)
 
-pub returns-then-expression_at-id : goal.returns-then-expression_at-id
-returns-then-expression_at-id c =
-    seek_found _ _ c.loop-k.invariant c.loop-k-test.true c.charge.ensures c.in-Paid.is c.expression_at.ensures c.if-expression_at-id.true
-
-pub loop-k-smaller : goal.loop-k-smaller
-loop-k-smaller c = omega arith
+pub returns-then-expression_at-id-clause-place : goal.returns-then-expression_at-id-clause-place
+returns-then-expression_at-id-clause-place c = seek_found _ _ _ _ c.loop-k.invariant c.loop-k-test.true c.in_ok-work.ensures c.expression_at.ensures c.if-expression_at-id.true
 
 pub loop-k-preserved : goal.loop-k-preserved
-loop-k-preserved c =
-    seek_more _ _ c.loop-k.invariant c.loop-k-test.true c.charge.ensures c.in-Paid.is c.expression_at.ensures c.if-expression_at-id.false
+loop-k-preserved c = seek_more _ _ _ _ c.loop-k.invariant c.loop-k-test.true c.in_ok-work.ensures c.expression_at.ensures c.if-expression_at-id.false
 
-pub returns : goal.returns
-returns c = seek_ends _ _ c.loop-k.invariant (omega arith)
+pub returns-clause-place : goal.returns-clause-place
+returns-clause-place c = seek_none _ _ _ _ c.loop-k.invariant (omega arith)

@@ -1,20 +1,14 @@
 -- `refinements::restrict` meets its contract.
-use Rattle.refinements.proofs.CodeLaws.{restrict_stops, restrict_found, restrict_ends}
-use Rattle.refinements.specs.Refinement.{refinement_at}
 use Rattle.lattice.specs.Value.{value_of}
+use Rattle.refinements.specs.Refinement.{refinement_at}
+use Rattle.refinements.proofs.CodeLaws.{restrict_stopped, restrict_one, restrict_none}
 use Rattle.refinements.proofs.restrict.Goals as goal
 
-pub returns-then-k-count : goal.returns-then-k-count
-returns-then-k-count c =
-    let a = c.args in
-    restrict_found a.constants.now (refinement_at a.refinements.now) a.id (value_of a.value) a.count a.work a.max_work a.entries a.max_entries c.position.ensures c.in-At.is c.if-k-count.true c.restriction_at.ensures c.narrow.ensures
+pub returns-in-Ok-Some : goal.returns-in-Ok-Some
+returns-in-Ok-Some c = restrict_one c.args.constants.now (refinement_at c.args.refinements.now) c.args.id (value_of c.args.value) c.args.count _ (rw c.in-Ok-Some.field-0-is at c.in-Ok-Some.ensures.place) (rw c.in-Ok-Some.field-0-is at c.in-Ok-Some.ensures.within) c.restriction_at.ensures c.narrow.ensures
 
-pub returns-in-Stopped : goal.returns-in-Stopped
-returns-in-Stopped c =
-    let a = c.args in
-    restrict_stops a.constants.now (refinement_at a.refinements.now) a.id (value_of a.value) a.count a.work a.max_work a.entries a.max_entries c.position.ensures c.in-Stopped.is c.entries_of.ensures c.release.ensures
+pub returns-in-Ok-None : goal.returns-in-Ok-None
+returns-in-Ok-None c = restrict_none c.args.constants.now (refinement_at c.args.refinements.now) c.args.id (value_of c.args.value) c.args.count _ (rw c.in-Ok-None.field-0-is at c.in-Ok-None.ensures.place)
 
-pub returns-else-k-count : goal.returns-else-k-count
-returns-else-k-count c =
-    let a = c.args in
-    restrict_ends a.constants.now (refinement_at a.refinements.now) a.id (value_of a.value) a.count a.work a.max_work a.entries a.max_entries c.position.ensures c.in-At.is c.if-k-count.false
+pub returns-in-Err : goal.returns-in-Err
+returns-in-Err c = restrict_stopped c.args.constants.now (refinement_at c.args.refinements.now) c.args.id (value_of c.args.value) c.args.count _ c.in-Err.ensures.place c.entries_of.ensures c.release.ensures
