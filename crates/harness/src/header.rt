@@ -1,5 +1,7 @@
 //! A header as 34 words: limits, statistics, counts of rows, the context, and the phase with its Stop and context. Any words are a header;
 //! words that are missing are 0.
+ghost use Rattle.std.specs.Prelude.{◌<◌};
+
 use limits::{Budget, Limits, Refusal, Resource, Statistics, Stop};
 use store::{Counts, Phase, Store};
 
@@ -53,13 +55,19 @@ fn counts_of(words: &[u64]) -> Counts {
     }
 }
 
-fn context_of(mark: u64, context: u64) -> Option<u32> {
-    if mark == 0 {
-        return None;
-    }
-    Some((context % 4294967296) as u32)
+// 32 bits of a word. `%`, since a cast alone must fit.
+pub fn low(word: u64) -> u32 {
+    (word % 4294967296) as u32
 }
 
+// The context of two words: whether there is one, and its number.
+fn context_of(words: &[u64], at: usize) -> Option<u32>
+    requires { at < 33 }
+{
+    (word(words, at) != 0).then_some(low(word(words, at + 1)))
+}
+
+// Any word is a resource, the last one where there is no other: no `TryFrom`, since it cannot fail.
 fn resource_of(code: u64) -> Resource {
     match code {
         3 => Resource::Work,
@@ -86,7 +94,7 @@ fn phase_of(words: &[u64]) -> Phase {
         0 => Phase::Absent,
         1 => Phase::Open,
         2 => Phase::Completed,
-        _ => Phase::Stopped(stop_of(words), context_of(word(words, 32), word(words, 33))),
+        _ => Phase::Stopped(stop_of(words), context_of(words, 32)),
     }
 }
 
@@ -107,7 +115,7 @@ pub fn of(words: &[u64]) -> Store {
             statistics: statistics_of(words),
         },
         counts: counts_of(words),
-        context: context_of(word(words, 25), word(words, 26)),
+        context: context_of(words, 25),
         phase: phase_of(words),
     }
 }
@@ -146,18 +154,15 @@ fn put_counts(words: &mut [u64], counts: Counts) {
     put_word(words, 24, counts.provenance as u64);
 }
 
-fn put_context(words: &mut [u64], at: usize, context: Option<u32>) {
-    match context {
-        None => put_pair(words, at, 0, 0),
-        Some(number) => put_pair(words, at, 1, u64::from(number)),
-    }
-}
-
-fn put_pair(words: &mut [u64], at: usize, first: u64, second: u64) {
-    if at < 33 {
-        put_word(words, at, first);
-        put_word(words, at + 1, second);
-    }
+fn put_context(words: &mut [u64], at: usize, context: Option<u32>)
+    requires { at < 33 }
+{
+    let (mark, number) = match context {
+        Some(number) => (1, u64::from(number)),
+        None => (0, 0),
+    };
+    put_word(words, at, mark);
+    put_word(words, at + 1, number);
 }
 
 fn put_stop(words: &mut [u64], stop: Stop) {

@@ -29,7 +29,7 @@ pub extern "C" fn harness_fresh(words: &mut [u64]) -> u64 {
 pub extern "C" fn harness_plain(call: u64, a: u64, words: &mut [u64]) -> u64 {
     let mut store = header::of(words);
     let answer = if call == 0 {
-        store.context(parts::low(a))
+        store.context(header::low(a))
     } else {
         store.work(a)
     };

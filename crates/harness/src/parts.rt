@@ -6,10 +6,6 @@ use nodes::Expression;
 use rules::{AggregateFunction, Binding, Guard, Head, Lengths, Relation, Rule};
 use std::array;
 
-pub fn low(number: u64) -> u32 {
-    (number % 4294967296) as u32
-}
-
 pub fn expression(kind: u64, a: u64, b: u64, c: u64) -> Expression {
     match kind {
         0 => Expression::Constant(a),
