@@ -1,2 +1,1 @@
 pub mod Bindings
-pub mod Answers

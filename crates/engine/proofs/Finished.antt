@@ -10,7 +10,8 @@ use Rattle.integers.specs.Lists.{All}
 use Rattle.limits.proofs.Ends.{Ends, ends_through, on_then}
 use Rattle.slots.specs.Slots.{total}
 use Rattle.slots.proofs.Live.{Formed}
-use Rattle.rounds.specs.Round.{Given, Course, candidates}
+use Rattle.rounds.specs.declared.Course.{Course}
+use Rattle.rounds.specs.Round.{Given, candidates}
 use Rattle.rounds.proofs.Live.{Fit, Room}
 use Rattle.passes.specs.Pass.{Ascent, ascent, pass, ascend}
 use Rattle.passes.proofs.Ascending.{ascend_ends}

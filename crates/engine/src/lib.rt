@@ -2,20 +2,19 @@
 //! that it lends to its helpers; the result tables are written once, after the last thing that can be refused.
 #![tactic(auto)]
 
-ghost use Rattle.std.specs.Prelude.{◌≡◌, ◌+◌, ◌≤◌, length};
+ghost use Rattle.std.specs.Prelude.{ℕ, ℤ, List, ◌≡◌, ◌+◌, ◌≤◌, length};
 ghost use Rattle.std.proofs.lemmas.List.Edits.{sets};
-ghost use Rattle.rows.specs.Row.{padded};
-ghost use Rattle.thresholds.specs.Thresholds.{entry};
-ghost use Rattle.evaluation.specs.Evaluation.{input};
-ghost use Rattle.rounds.specs.Round.{given};
-ghost use Rattle.engine.specs.Run.{enter_ends, start, seeded, beginning, begin, progress, ascend_and_end, finish};
-ghost use Rattle.engine.specs.Call.{read, tables, sizes, result_sizes, spacious, ended_in, ran_on, run_call};
 ghost use Rattle.limits.specs.Metered.{answered};
 ghost use Rattle.limits.specs.Refusal.{replied};
-ghost use Rattle.engine.specs.Answers.{progressed, Concludes};
+ghost use Rattle.rows.specs.Row.{padded};
+ghost use Rattle.thresholds.specs.Thresholds.{entry};
+ghost use Rattle.rounds.specs.Lent.{given_in};
+ghost use Rattle.engine.specs.Run.{enter_ends, start, seeded, beginning, begin, progress, ascend_and_end, finish};
+ghost use Rattle.engine.specs.Call.{read, tables, sizes, result_sizes, spacious, ended_in, concluded, ran_on, run_call};
 
-use limits::{Billed, Budget, Refusal, Resource, Stop};
-use rounds::Ran;
+use evaluation::Input;
+use limits::{Budget, Refusal, Resource, Stop};
+use rounds::{Course, Given};
 use store::{Counts, Phase, Store};
 
 // Two cells for each argument.
@@ -40,23 +39,14 @@ fn seed(
 ) -> Result<(), Stop>
     ensures { answered result (start budget.new current.new growth.new) ≡ seeded seeds.now positions (start budget.old current.old growth.old) }
 {
-    match rounds::copy_in(*budget, seeds, current, positions) {
-        Billed::Stopped(stop, kept) => {
-            *budget = kept;
-            return Err(stop);
-        }
-        Billed::Paid(paid) => *budget = paid,
+    rounds::copy_in(seeds, current, positions, budget)?;
+    let charged = budget.pay(Resource::Work, positions as u64);
+    if charged.is_err() {
+        rounds::without_rows(current, positions, budget);
+        return charged;
     }
-    match budget.pay(Resource::Work, positions as u64) {
-        Err(stop) => {
-            *budget = rounds::without_rows(*budget, current, positions);
-            Err(stop)
-        }
-        Ok(()) => {
-            widening::clear_growth(growth, positions);
-            Ok(())
-        }
-    }
+    widening::clear_growth(growth, positions);
+    Ok(())
 }
 
 // What a run begins with: the ends are thresholds, and the seeds are the current values. The count is that of the thresholds.
@@ -78,73 +68,43 @@ pub fn begin(
 
 // The ascent, then the last round and what the result is charged for.
 fn ascend_and_end(
-    nodes: &[u64],
-    constants: &[u32],
-    rules: &[u32],
-    count: usize,
-    seeds: &[u32],
-    positions: usize,
+    given: &Given,
     thresholds: &[i32],
     current: &mut [u32],
     growth: &mut [u32],
     bounds: &mut [u32],
-    budget: Budget,
-    context: Option<u32>,
-) -> Ran
-    ensures { progressed result current.new growth.new bounds.new ≡ ascend_and_end (given (input nodes.now constants.now budget.limits.width) rules.now count seeds.now positions) thresholds.now (progress budget context current.old growth.old bounds.old) }
+    course: &mut Course,
+) -> Result<(), Stop>
+    ensures { answered result (progress course.new.budget course.new.context current.new growth.new bounds.new) ≡ ascend_and_end (given_in given.now) thresholds.now (progress course.old.budget course.old.context current.old growth.old bounds.old) }
 {
-    match passes::ascend(
-        nodes, constants, rules, count, seeds, positions, thresholds, current, growth, budget,
-        context,
-    ) {
-        Ran::Stopped(stop, kept, force) => Ran::Stopped(stop, kept, force),
-        Ran::Done(paid, force) => results::last(
-            nodes, constants, rules, count, seeds, positions, current, bounds, paid, force,
-        ),
-    }
+    passes::ascend(given, thresholds, current, growth, course)?;
+    results::last(given, current, bounds, course)
 }
 
 // From the seeds to the result. Without rules the seeds are the result, and no round is charged.
 fn finish(
-    nodes: &[u64],
-    constants: &[u32],
-    rules: &[u32],
-    count: usize,
-    seeds: &[u32],
-    positions: usize,
+    given: &Given,
     thresholds: &[i32],
     current: &mut [u32],
     growth: &mut [u32],
     bounds: &mut [u32],
-    budget: Budget,
-    context: Option<u32>,
-) -> Ran
-    ensures { progressed result current.new growth.new bounds.new ≡ finish (given (input nodes.now constants.now budget.limits.width) rules.now count seeds.now positions) thresholds.now (progress budget context current.old growth.old bounds.old) }
+    course: &mut Course,
+) -> Result<(), Stop>
+    ensures { answered result (progress course.new.budget course.new.context current.new growth.new bounds.new) ≡ finish (given_in given.now) thresholds.now (progress course.old.budget course.old.context current.old growth.old bounds.old) }
 {
-    if count == 0 {
-        return results::close(
-            nodes, constants, rules, count, positions, current, bounds, budget, context,
-        );
+    if given.count == 0 {
+        return results::close(given, current, bounds, course);
     }
-    ascend_and_end(
-        nodes, constants, rules, count, seeds, positions, thresholds, current, growth, bounds,
-        budget, context,
-    )
+    ascend_and_end(given, thresholds, current, growth, bounds, course)
 }
 
-// The header of a store whose run has ended. The caller's context stays.
-fn ended(store: Store, budget: Budget, thresholds: usize, phase: Phase) -> Store
-    ensures { result ≡ ended_in phase budget thresholds store }
+// The run of a store has ended. The caller's context stays.
+fn end(store: &mut Store, budget: Budget, thresholds: usize, phase: Phase)
+    ensures { store.new ≡ ended_in phase budget thresholds store.old }
 {
-    Store {
-        budget,
-        counts: Counts {
-            thresholds,
-            ..store.counts
-        },
-        context: store.context,
-        phase,
-    }
+    store.budget = budget;
+    store.counts.thresholds = thresholds;
+    store.phase = phase;
 }
 
 // The first `count` cells of a table stand in another.
@@ -159,30 +119,31 @@ fn move_cells(from: &[u32], to: &mut [u32], count: usize)
 // A run that has ended. Completed, the result tables are written and the seeds are dropped; stopped, the current values are dropped and
 // the result tables stay.
 fn conclude(
-    store: Store,
-    ran: Ran,
+    store: &mut Store,
+    ran: Result<(), Stop>,
+    course: Course,
     thresholds: usize,
     seeds: &[u32],
     current: &[u32],
     bounds: &[u32],
     arguments: &mut [u32],
     slots: &mut [u32],
-) -> Store
-    requires { store.counts.rules ≤ 256 }
-    ensures { Concludes store ran thresholds seeds.now current.now bounds.now arguments.old slots.old result arguments.new slots.new }
+)
+    requires { store.old.counts.rules ≤ 256 }
+    ensures { (marks before : List ℤ) (growth : List ℕ) → tables store.new marks arguments.new slots.new ≡ concluded seeds.now thresholds marks (tables store.old before arguments.old slots.old) (answered ran (progress course.budget course.context current.now growth bounds.now)) }
 {
-    let counts = store.counts;
-    let positions = counts.positions;
+    let positions = store.counts.positions;
+    let mut budget = course.budget;
     match ran {
-        Ran::Stopped(stop, kept, force) => {
-            let left = rounds::without_rows(kept, current, positions);
-            ended(store, left, thresholds, Phase::Stopped(stop, force))
+        Err(stop) => {
+            rounds::without_rows(current, positions, &mut budget);
+            end(store, budget, thresholds, Phase::Stopped(stop, course.context));
         }
-        Ran::Done(paid, _) => {
+        Ok(()) => {
             rounds::move_rows(current, arguments, positions);
-            move_cells(bounds, slots, results::RULE * counts.rules);
-            let left = rounds::without_rows(paid, seeds, positions);
-            ended(store, left, thresholds, Phase::Completed)
+            move_cells(bounds, slots, results::RULE * store.counts.rules);
+            rounds::without_rows(seeds, positions, &mut budget);
+            end(store, budget, thresholds, Phase::Completed);
         }
     }
 }
@@ -201,44 +162,49 @@ fn run_open(
     requires { (store.old.counts.rules ≤ 256) × (store.old.counts.thresholds + 2 ≤ length thresholds.old) }
     ensures { tables store.new thresholds.new arguments.new slots.new ≡ ran_on (read nodes.now constants.now rules.now seeds.now) (tables store.old thresholds.old arguments.old slots.old) }
 {
-    let given = *store;
-    let mut budget = given.budget;
-    let mut marks = given.counts.thresholds;
+    let given = Given {
+        input: Input {
+            nodes,
+            constants,
+            width: store.budget.limits.width,
+        },
+        rules,
+        count: store.counts.rules,
+        seeds,
+        positions: store.counts.positions,
+    };
+    let mut course = Course {
+        budget: store.budget,
+        context: store.context,
+    };
+    let mut marks = store.counts.thresholds;
     let mut current = [0u32; rounds::ARGUMENTS];
     let mut growth = [0u32; GROWTH];
     let mut bounds = [0u32; results::BOUNDS];
-    match begin(
+    let begun = begin(
         seeds,
-        given.counts.positions,
+        given.positions,
         thresholds,
         &mut marks,
         &mut current,
         &mut growth,
-        &mut budget,
-    ) {
-        Err(stop) => {
-            *store = ended(given, budget, marks, Phase::Stopped(stop, given.context));
-        }
-        Ok(()) => {
-            let ran = finish(
-                nodes,
-                constants,
-                rules,
-                given.counts.rules,
-                seeds,
-                given.counts.positions,
-                &thresholds[..marks],
-                &mut current,
-                &mut growth,
-                &mut bounds,
-                budget,
-                given.context,
-            );
-            *store = conclude(
-                given, ran, marks, seeds, &current, &bounds, arguments, slots,
-            );
-        }
+        &mut course.budget,
+    );
+    if let Err(stop) = begun {
+        let phase = Phase::Stopped(stop, course.context);
+        return end(store, course.budget, marks, phase);
     }
+    let ran = finish(
+        &given,
+        &thresholds[..marks],
+        &mut current,
+        &mut growth,
+        &mut bounds,
+        &mut course,
+    );
+    conclude(
+        store, ran, course, marks, seeds, &current, &bounds, arguments, slots,
+    );
 }
 
 // The sizes of the tables that a run reads.

@@ -1,2 +1,2 @@
 pub mod Guards
-pub mod Answers
+pub mod Operands

@@ -9,7 +9,8 @@ use Rattle.lattice.specs.Value.{Value}
 use Rattle.rows.specs.Row.{value_at}
 use Rattle.slots.specs.Slots.{total}
 use Rattle.widening.specs.declared.Growth.{Growth}
-use Rattle.rounds.specs.Round.{Given, Course, course, candidates}
+use Rattle.rounds.specs.declared.Course.{Course}
+use Rattle.rounds.specs.Round.{Given, course, candidates}
 use Rattle.rounds.proofs.Live.{Room}
 use Rattle.passes.specs.Step.{grow}
 use Rattle.passes.specs.Pass.{Ascent, ascent, renew, pass}

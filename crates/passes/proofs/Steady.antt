@@ -19,7 +19,8 @@ use Rattle.lattice.specs.Value.{Value}
 use Rattle.rows.specs.Row.{value_at, put}
 use Rattle.seeds.specs.Seed.{loses}
 use Rattle.widening.specs.Widening.{growth_at, put_growth}
-use Rattle.rounds.specs.Round.{Given, Course, blank, candidates, moved}
+use Rattle.rounds.specs.declared.Course.{Course}
+use Rattle.rounds.specs.Round.{Given, blank, candidates, moved}
 use Rattle.rounds.proofs.Pays.{Pays, candidates_pay}
 use Rattle.rounds.proofs.Steady.{candidates_steady}
 use Rattle.passes.specs.Step.{Grown, grow, Steps, steps, counting, stepped, step, advance}

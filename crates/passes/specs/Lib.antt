@@ -1,3 +1,3 @@
 pub mod Step
 pub mod Pass
-pub mod Answers
+pub mod Lent

@@ -6,7 +6,8 @@ use Rattle.limits.specs.Metered.{Run, going, stopped, Metered, pure, ◌>>=◌, 
 use Rattle.limits.specs.Budget.{released}
 use Rattle.slots.specs.Slots.{total}
 use Rattle.store.specs.Store.{Context}
-use Rattle.rounds.specs.Round.{Given, Course, course, blank, candidates, moved}
+use Rattle.rounds.specs.declared.Course.{Course}
+use Rattle.rounds.specs.Round.{Given, course, blank, candidates, moved}
 use Rattle.passes.specs.Step.{Steps, steps, advance}
 
 -- what a run hands on from pass to pass: the counts, the context in force, the current values, and how often sides have grown

@@ -14,7 +14,8 @@ use Rattle.rules.specs.Read.{slots_at}
 use Rattle.slots.specs.Slots.{total}
 use Rattle.slots.proofs.Live.{Formed}
 use Rattle.evaluation.specs.Evaluation.{Input}
-use Rattle.rounds.specs.Round.{Given, Standing, standing, charging, each_rule, Course, course, candidates, moved}
+use Rattle.rounds.specs.declared.Course.{Course}
+use Rattle.rounds.specs.Round.{Given, Standing, standing, charging, each_rule, course, candidates, moved}
 use Rattle.limits.proofs.Charging.{charge_ends}
 use Rattle.rounds.proofs.Brings.{Brings, brings_pure, brings_then, brings_step, brings_locals, Stands, rules_keep}
 use Rattle.rounds.proofs.Moved.{length_moved, moved_row, moved_formed, moved_total}

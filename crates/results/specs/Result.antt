@@ -12,7 +12,8 @@ use Rattle.rules.specs.Read.{slots_at}
 use Rattle.slots.specs.Slots.{Slots, slots, total, step}
 use Rattle.evaluation.specs.Evaluation.{Input}
 use Rattle.rounds.specs.Locals.{with_locals}
-use Rattle.rounds.specs.Round.{Given, Standing, standing, charging, each_rule, Course, course, candidates, moved}
+use Rattle.rounds.specs.declared.Course.{Course}
+use Rattle.rounds.specs.Round.{Given, Standing, standing, charging, each_rule, course, candidates, moved}
 
 -- ---- the bounds of a rule's slots: four cells for each bound, two bounds for each of 16 slots, of each of 256 rules
 

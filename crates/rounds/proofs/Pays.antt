@@ -14,7 +14,8 @@ use Rattle.limits.proofs.Ends.{Ends, completes, stops, ends_pure, ends_as, ends_
 use Rattle.store.specs.Store.{Context}
 use Rattle.rules.specs.Read.{context_at}
 use Rattle.slots.specs.Slots.{Slots, slots, total, copies}
-use Rattle.rounds.specs.Round.{Given, Standing, standing, in_table, holding_rows, entering, each_rule, apply, produce, image, Course, blank, candidates_of, candidates}
+use Rattle.rounds.specs.declared.Course.{Course}
+use Rattle.rounds.specs.Round.{Given, Standing, standing, in_table, holding_rows, entering, each_rule, apply, produce, image, blank, candidates_of, candidates}
 
 -- ---- of budgets
 

@@ -18,7 +18,8 @@ use Rattle.evaluation.specs.Evaluation.{Input}
 use Rattle.transfer.specs.Transfer.{Frame}
 use Rattle.transfer.proofs.Steady.{tables, on_rule, head_steady}
 use Rattle.rounds.specs.Locals.{Locals, fill, blank, locals_of, local, with_locals}
-use Rattle.rounds.specs.Round.{Given, Standing, Course, entering, in_table, each_rule, join_owned, join_head, apply, produce, image, candidates_of, candidates}
+use Rattle.rounds.specs.declared.Course.{Course}
+use Rattle.rounds.specs.Round.{Given, Standing, entering, in_table, each_rule, join_owned, join_head, apply, produce, image, candidates_of, candidates}
 use Rattle.rounds.specs.Round as rounds
 
 -- ---- a rule's slots

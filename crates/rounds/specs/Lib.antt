@@ -1,3 +1,3 @@
 pub mod Locals
 pub mod Round
-pub mod Answers
+pub mod Lent

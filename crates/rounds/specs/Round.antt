@@ -14,6 +14,7 @@ use Rattle.rules.specs.Read.{context_at, heads_at}
 use Rattle.slots.specs.Slots.{Slots, slots, total, paying, dropping, replace, each, copies}
 use Rattle.evaluation.specs.Evaluation.{Input}
 use Rattle.transfer.specs.Transfer.{head}
+use Rattle.rounds.specs.declared.Course.{Course}
 use Rattle.rounds.specs.Locals.{with_locals}
 
 -- what a run is given: the expressions, the constants and the width; the rules that it applies, and the seeds of its arguments
@@ -82,11 +83,6 @@ unfoldable pub image : Given → List ℕ → Metered Stop Standing (Unit {0})
 image g previous = charging round >> produce g previous
 
 -- ---- in a table of its own
-
--- the counts and the context in force
-pub record Course : Type 0 where
-  pub budget : Budget
-  pub context : Context
 
 abbrev pub course : Budget → Context → Course
 course b c = record { budget = b; context = c }

@@ -16,7 +16,8 @@ use Rattle.rows.specs.Row.{value_at}
 use Rattle.keys.specs.Key.{Key}
 use Rattle.slots.specs.Slots.{total}
 use Rattle.widening.specs.declared.Growth.{Growth}
-use Rattle.rounds.specs.Round.{Given, given, Course, candidates}
+use Rattle.rounds.specs.declared.Course.{Course}
+use Rattle.rounds.specs.Round.{Given, given, candidates}
 use Rattle.rounds.proofs.Live.{Room, candidates_ends}
 use Rattle.passes.specs.Step.{grow}
 use Rattle.passes.specs.Pass.{Ascent, pass}

@@ -1,0 +1,9 @@
+-- What guards ask of a value.
+use Rattle.std.proofs.Math.Option.{none}
+use Rattle.std.specs.Prelude.{None}
+use Rattle.interval.specs.declared.Bound.{Bound}
+use Rattle.lattice.specs.Value.{Value, value}
+
+-- a value with this bound: guards ask for no more
+abbrev pub bare : Bound → Value
+bare b = value b none None

@@ -1,0 +1,28 @@
+-- What the code lends itself, as the definitions have it.
+use Rattle.std.specs.Prelude.{ℕ, ◌×◌, List}
+use Rattle.limits.specs.declared.Stop.{Stop}
+use Rattle.limits.specs.declared.Budget.{Budget}
+use Rattle.limits.specs.Metered.{Metered, zoom}
+use Rattle.limits.specs.Meter.{meter_of, with_meter}
+use Rattle.rules.specs.Read.{heads_at}
+use Rattle.slots.specs.Slots.{Slots, slots, each}
+use Rattle.evaluation.specs.Operands.{input_in}
+use Rattle.rounds.specs.declared.Given as code
+use Rattle.rounds.specs.declared.Locals as code_locals
+use Rattle.rounds.specs.declared.Joining.{Joining}
+use Rattle.rounds.specs.Locals.{Locals, locals}
+use Rattle.rounds.specs.Round.{Given, given, join_head}
+
+abbrev pub given_in : code.Given → Given
+given_in g = given (input_in g.input) g.rules.now g.count g.seeds.now g.positions
+
+abbrev pub locals_in : code_locals.Locals → Locals
+locals_in l = locals l.domains.now l.produced.now l.refinements.now l.recorded
+
+-- what a round does with a rule's slots
+abbrev pub joining : Joining → ℕ → Locals → Metered Stop Slots (Unit {0})
+joining t id l = each (join_head (input_in t.input) l.produced l.refinements l.recorded) (heads_at t.rules.now id)
+
+-- m with the counts of a budget
+abbrev pub in_budget : {A : Type 0} → Metered Stop Slots A → Metered Stop (Budget × List ℕ) A
+in_budget = zoom (λ s. slots (meter_of s.0) s.1) (λ t s. (with_meter t.meter s.0, t.rows))
