@@ -1,5 +1,5 @@
 -- What the code works on, as the definitions have it, and what it sees of a value.
-use Rattle.std.specs.Prelude.{ℕ, ◌×◌, List}
+use Rattle.std.specs.Prelude.{ℕ, List}
 use Rattle.limits.specs.declared.Stop.{Stop}
 use Rattle.limits.specs.Metered.{Run, going, stopped, mapped}
 use Rattle.limits.specs.declared.Meter.{Meter}
