@@ -3,6 +3,7 @@
 use Prim.Native.Nat.{ℕ, zero, suc, ◌+◌, ◌-◌, ◌*◌, ◌≤◌, ◌<◌}
 use native.Mathlib.Omega.{arith}
 use native.Mathlib.Decide.{dec_lt}
+use Rattle.std.proofs.Common.{Result, Ok, Err}
 use mathlib.Core.Path.{◌≡◌, refl, sym, ap, ◌∙◌}
 use mathlib.Core.Logic.{inl, inr}
 use mathlib.Core.Bool.{Bool, true, false, cond}
@@ -15,7 +16,6 @@ use Rattle.integers.proofs.ListLaws.{Compared, less, more, same, compared}
 use Rattle.integers.proofs.Insertion.{inserted_below, inserted_at, inserted_above}
 use Rattle.limits.specs.declared.Resource.TheVariants.{Work}
 use Rattle.limits.specs.declared.Stop.{Stop}
-use Rattle.limits.specs.declared.Charged.TheVariants.{Paid, Stopped}
 use Rattle.limits.specs.Charge.{stop_of, charge_of}
 use Rattle.limits.specs.Metered.{Run, going, stopped, Metered, pure, ◌>>◌}
 use Rattle.limits.specs.declared.Meter.{Meter}
@@ -77,7 +77,7 @@ work_stops : (n : ℕ) (s : Meter) → Ends (λ _ _. Unit {0}) (λ e _. e.resour
 unfolding work charge_of
 work_stops n s = go (leb (s.work + n) s.max_work)
   where
-    go : (t : Bool) → Ends (λ _ _. Unit {0}) (λ e _. e.resource ≡ Work) (charged (λ i. with_work i s) s (cond t (Paid (s.work + n)) (Stopped (stop_of Work s.max_work (s.work + n)) s.work)))
+    go : (t : Bool) → Ends (λ _ _. Unit {0}) (λ e _. e.resource ≡ Work) (charged (λ i. with_work i s) s (cond t (Ok (s.work + n)) (Err (stop_of Work s.max_work (s.work + n)))))
     go true = completes tt
     go false = stops refl
 

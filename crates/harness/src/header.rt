@@ -167,7 +167,7 @@ fn put_context(words: &mut [u64], at: usize, context: Option<u32>)
 
 fn put_stop(words: &mut [u64], stop: Stop) {
     put_word(words, 27, 3);
-    put_word(words, 28, stop.resource.number());
+    put_word(words, 28, u64::from(stop.resource));
     put_word(words, 29, stop.limit);
     put_word(words, 30, stop.high);
     put_word(words, 31, stop.low);

@@ -12,7 +12,7 @@ use limits::Refusal;
 fn code<T: Copy>(answer: Result<T, Refusal>) -> u64 {
     match answer {
         Ok(_) => 0,
-        Err(refusal) => refusal.number(),
+        Err(refusal) => u64::from(refusal),
     }
 }
 
@@ -208,7 +208,7 @@ pub extern "C" fn harness_name(
         }
         Err(refusal) => {
             *seen = 0;
-            refusal.number()
+            u64::from(refusal)
         }
     }
 }

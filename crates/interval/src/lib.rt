@@ -186,13 +186,6 @@ impl Bound {
         }
     }
 
-    // For lattice, until it writes `==`.
-    pub fn same(self, other: Bound) -> bool
-        ensures { result ≡ same_bound self other }
-    {
-        self == other
-    }
-
     // Whether a constant lies in the bound: a number in the interval, a name in a Mixed bound.
     pub fn allows(self, constant: Constant) -> bool
         ensures { result ≡ allows_of self constant }

@@ -7,4 +7,3 @@ pub mod Steadiness
 pub mod Members
 pub mod CodeLaws
 pub mod Sifting
-pub mod Limits

@@ -17,10 +17,6 @@ use interval::{Bound, Constant, Interval};
 use limits::{Meter, Stop};
 use lists::Ids;
 
-mod bridge;
-
-pub use bridge::{Made, Outcome};
-
 // Why an argument lost its list.
 #[derive(Clone, Copy, Debug, PartialEq, Eq)]
 pub enum Widening {
@@ -234,7 +230,7 @@ impl Meeting<'_> {
         ensures { value_of result ≡ without (value_of self.now.left.now) (value_of self.now.right.now) self.now.bound }
     {
         let reason = self.left.reason.or(self.right.reason);
-        if self.bound.same(Bound::BOTTOM) {
+        if self.bound == Bound::BOTTOM {
             return listed(self.bound, Ids::new(), reason);
         }
         unlisted(self.bound, reason)
@@ -312,10 +308,10 @@ impl Abstract {
         ensures { answered result meter.new ≡ same (value_of self) (value_of other) meter.old }
     {
         meter.work(1)?;
-        if !self.bound.same(other.bound) {
-            return Ok(false);
+        if self.bound == other.bound {
+            return same_lists(&self, &other, meter);
         }
-        same_lists(&self, &other, meter)
+        Ok(false)
     }
 
     pub fn join(self, other: Abstract, width: u64, meter: &mut Meter) -> Result<Abstract, Stop>

@@ -48,6 +48,16 @@ module _ {S A : Type 0} {s : S} {y : Run Told S A} where
   pub refuses : (x : Result A Refusal) (e : Refusal) → IsErrAnd x (λ d. d ≡ e) → stopped (told e) s ≡ y → replied x s ≡ y
   refuses x e h k = let p = err_from_is_err_and x h in rw (p.1, p.2) k
 
+-- what the code answers on a part of the state
+module _ {E S T A : Type 0} (get : S → T) (put : T → S → S) (m : Metered E T A) (s : S) where
+  pub answered_through : (r : Result A E) (t : T) → answered r t ≡ m (get s) → answered r (put t s) ≡ zoom get put m s
+  unfolding through mapped
+  answered_through r t h = rw (← h) (go r)
+    where
+      go : (r : Result A E) → answered r (put t s) ≡ mapped (λ u. put u s) (λ u. put u s) (λ e. e) (answered r t)
+      go (Ok a) = refl
+      go (Err e) = refl
+
 -- what a call answers on a part of the state
 module _ {S T A : Type 0} (get : S → T) (put : T → S → S) (m : Metered Told T A) (s : S) where
   pub replied_through : (r : Result A Refusal) (t : T) → replied r t ≡ m (get s) → replied r (put t s) ≡ zoom get put m s

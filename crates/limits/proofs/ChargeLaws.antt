@@ -2,6 +2,7 @@
 use Prim.Native.Nat.{ℕ, ◌+◌, ◌<◌, ◌≤◌}
 use native.Mathlib.Omega.{arith}
 use mathlib.Core.Path.{◌≡◌, refl, sym, ap, subst, ◌∙◌}
+use Rattle.std.proofs.Common.{Result, Ok, Err}
 use mathlib.Core.Logic.{◌↔◌}
 use mathlib.Core.Bool.{Bool, true, false, cond}
 use borrow.Author.Tests.{leb-true, leb-false, eq-eqb, ne_eqb}
@@ -11,8 +12,6 @@ use Rattle.limits.specs.declared.Resource.TheVariants.{Work, Predicates, Positio
 use Rattle.limits.specs.declared.Stop.{Stop}
 use Rattle.limits.specs.declared.Statistics.{Statistics}
 use Rattle.limits.specs.declared.Budget.{Budget}
-use Rattle.limits.specs.declared.Charged.{Charged}
-use Rattle.limits.specs.declared.Charged.TheVariants.{Paid, Stopped}
 use Rattle.limits.specs.declared.Refusal.{Refusal}
 use Rattle.limits.specs.declared.Refusal.TheVariants.{Closed, Shape, Full, Limit, Missing, Descending, MissingSlot}
 use Rattle.limits.specs.Charge.{stop_of, observed, charge_of}
@@ -89,7 +88,7 @@ module _ (r : Resource) (amount : ℕ) (b : Budget) where
     where
       go : (t : Bool) → leb (count_of r b.statistics + amount) (limit_of r b.limits) ≡ t →
           Charges r amount b
-          (charged r b (cond t (Paid (count_of r b.statistics + amount)) (Stopped (stop_of r (limit_of r b.limits) (count_of r b.statistics + amount)) (count_of r b.statistics))))
+          (charged r b (cond t (Ok (count_of r b.statistics + amount)) (Err (stop_of r (limit_of r b.limits) (count_of r b.statistics + amount)))))
       go true e = accepted (leb-true _ _ e)
       go false e = refused _ (leb-false _ _ e) refl refl (observed_is r (limit_of r b.limits) (count_of r b.statistics + amount))
 
@@ -145,19 +144,19 @@ module _ (r : Resource) (amount : ℕ) (b : Budget) where
 
 -- ---- the charges of lattice and transfer are those of the budget
 
-inner_charged : (b : Budget) (x : Charged) → mapped (λ m. with_meter m b) (λ m. with_meter m b) (λ e. e) (inner.charged (λ n. inner.with_work n (meter_of b)) (meter_of b) x) ≡ charged Work b x
+inner_charged : (b : Budget) (x : Result ℕ Stop) → mapped (λ m. with_meter m b) (λ m. with_meter m b) (λ e. e) (inner.charged (λ n. inner.with_work n (meter_of b)) (meter_of b) x) ≡ charged Work b x
 unfolding mapped
-inner_charged b (Paid n) = refl
-inner_charged b (Stopped e n) = refl
+inner_charged b (Ok n) = refl
+inner_charged b (Err e) = refl
 
 pub work_is : (amount : ℕ) (b : Budget) → metered (inner.work amount) b ≡ charge Work amount b
 unfolding through inner.work charge
 work_is amount b = inner_charged b (charge_of Work b.statistics.work amount b.limits.work)
 
-inner_retained : (b : Budget) (x : Charged) → mapped (λ m. with_meter m b) (λ m. with_meter m b) (λ e. e) (inner.charged (λ n. inner.with_entries n (meter_of b)) (meter_of b) x) ≡ charged ValueEntries b x
+inner_retained : (b : Budget) (x : Result ℕ Stop) → mapped (λ m. with_meter m b) (λ m. with_meter m b) (λ e. e) (inner.charged (λ n. inner.with_entries n (meter_of b)) (meter_of b) x) ≡ charged ValueEntries b x
 unfolding mapped
-inner_retained b (Paid n) = refl
-inner_retained b (Stopped e n) = refl
+inner_retained b (Ok n) = refl
+inner_retained b (Err e) = refl
 
 pub retain_is : (count : ℕ) (b : Budget) → metered (inner.retain count) b ≡ charge ValueEntries count b
 unfolding through inner.retain charge

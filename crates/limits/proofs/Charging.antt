@@ -1,11 +1,11 @@
 -- How a charge of a budget ends.
 use Prim.Native.Nat.{ℕ, ◌+◌}
 use mathlib.Core.Path.{◌≡◌, refl}
+use Rattle.std.proofs.Common.{Result, Ok, Err}
 use mathlib.Core.Bool.{Bool, true, false, cond}
 use lib.Dec.{leb}
 use Rattle.limits.specs.declared.Resource.{Resource}
 use Rattle.limits.specs.declared.Budget.{Budget}
-use Rattle.limits.specs.declared.Charged.TheVariants.{Paid, Stopped}
 use Rattle.limits.specs.Charge.{stop_of, charge_of}
 use Rattle.limits.specs.Records.{limit_of, count_of, with_count, with_statistics}
 use Rattle.limits.specs.Budget.{charge}
@@ -21,6 +21,6 @@ unfolding charge charge_of
 charge_ends r n b = go (leb (count_of r b.statistics + n) (limit_of r b.limits))
   where
     go : (t : Bool) → Ends (λ _ c. c ≡ billed r n b) (λ e c. (e.resource ≡ r) × (c ≡ b))
-        (budgets.charged r b (cond t (Paid (count_of r b.statistics + n)) (Stopped (stop_of r (limit_of r b.limits) (count_of r b.statistics + n)) (count_of r b.statistics))))
+        (budgets.charged r b (cond t (Ok (count_of r b.statistics + n)) (Err (stop_of r (limit_of r b.limits) (count_of r b.statistics + n)))))
     go true = completes refl
     go false = stops (refl, refl)

@@ -3,13 +3,12 @@
 use Prim.Native.Nat.{ℕ, ◌+◌}
 use native.Mathlib.Omega.{arith}
 use mathlib.Core.Path.{◌≡◌, refl, subst}
+use Rattle.std.proofs.Common.{Result, Ok, Err}
 use mathlib.Core.Bool.{Bool, true, false, cond}
 use mathlib.Core.List.{List, [], ◌∷◌}
 use lib.Dec.{leb}
 use Rattle.limits.specs.declared.Resource.TheVariants.{Work, ValueEntries}
 use Rattle.limits.specs.declared.Stop.{Stop}
-use Rattle.limits.specs.declared.Charged.{Charged}
-use Rattle.limits.specs.declared.Charged.TheVariants.{Paid, Stopped}
 use Rattle.limits.specs.Charge.{stop_of, charge_of}
 use Rattle.limits.specs.Metered.{Run, going, stopped, Metered, pure, after, ◌>>=◌, ◌>>◌, fold_m, mapped, through}
 use Rattle.limits.specs.declared.Meter.{Meter}
@@ -63,9 +62,9 @@ module _ {A B : Type 0} where
 
 -- ---- the charges
 
-charged_work : (m : Meter) (x : Charged) → LiveIn m.entries (λ _. 0) (charged (λ n. with_work n m) m x)
-charged_work m (Paid n) = omega arith
-charged_work m (Stopped e n) = refl
+charged_work : (m : Meter) (x : Result ℕ Stop) → LiveIn m.entries (λ _. 0) (charged (λ n. with_work n m) m x)
+charged_work m (Ok n) = omega arith
+charged_work m (Err e) = refl
 
 pub live_work : (amount : ℕ) → Lives 0 (λ _. 0) (work amount)
 unfolding work
@@ -75,7 +74,7 @@ live_work amount = record {
       (charged_work m (charge_of Work m.work amount m.max_work));
 }
 
-charged_entries : (m : Meter) (count : ℕ) (t : Bool) (s : Stop) → LiveIn m.entries (λ _. count) (charged (λ n. with_entries n m) m (cond t (Paid (m.entries + count)) (Stopped s m.entries)))
+charged_entries : (m : Meter) (count : ℕ) (t : Bool) (s : Stop) → LiveIn m.entries (λ _. count) (charged (λ n. with_entries n m) m (cond t (Ok (m.entries + count)) (Err s)))
 charged_entries m count true s = refl
 charged_entries m count false s = refl
 

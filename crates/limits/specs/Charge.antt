@@ -1,9 +1,7 @@
 -- One charge (limits.rs, `check` and `charge_work`). 01: "Charges are refused exactly when old + amount exceeds the limit."
-use Rattle.std.specs.Prelude.{ℕ, zero, suc, ◌+◌, ◌*◌, ◌/◌, ◌%◌, ◌^◌, cond, leb, Result, Ok, Err}
+use Rattle.std.specs.Prelude.{ℕ, ◌+◌, ◌*◌, ◌/◌, ◌%◌, ◌^◌, cond, leb, Result, Ok, Err}
 use Rattle.limits.specs.declared.Resource.{Resource}
 use Rattle.limits.specs.declared.Stop.{Stop}
-use Rattle.limits.specs.declared.Charged.{Charged}
-use Rattle.limits.specs.declared.Charged.TheVariants.{Paid, Stopped}
 
 -- 01: "128-bit sums: two 64-bit halves"
 abbrev pub stop_of : Resource → ℕ → ℕ → Stop
@@ -12,18 +10,5 @@ stop_of r limit observed = record { resource = r; limit = limit; high = observed
 abbrev pub observed : Stop → ℕ
 observed s = s.high * 2 ^ 64 + s.low
 
-unfoldable pub sum_of : Resource → ℕ → ℕ → ℕ → Result ℕ Stop
-sum_of r old amount limit = cond (leb (old + amount) limit) (Ok (old + amount)) (Err (stop_of r limit (old + amount)))
-
-unfoldable pub charge_of : Resource → ℕ → ℕ → ℕ → Charged
-charge_of r old amount limit = cond (leb (old + amount) limit) (Paid (old + amount)) (Stopped (stop_of r limit (old + amount)) old)
-
--- a further charge, unless one was refused
-abbrev pub on_paid : Charged → (ℕ → Charged) → Charged
-on_paid (Paid n) f = f n
-on_paid (Stopped e n) f = Stopped e n
-
--- n charges of one unit each: the first that is refused ends them
-unfoldable pub units_of : Resource → ℕ → ℕ → ℕ → Charged
-units_of r old zero limit = Paid old
-units_of r old (suc n) limit = on_paid (charge_of r old 1 limit) (λ now. units_of r now n limit)
+unfoldable pub charge_of : Resource → ℕ → ℕ → ℕ → Result ℕ Stop
+charge_of r old amount limit = cond (leb (old + amount) limit) (Ok (old + amount)) (Err (stop_of r limit (old + amount)))

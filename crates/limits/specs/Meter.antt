@@ -1,9 +1,7 @@
 -- The part of a budget that lattice and transfer charge, work and live entries, each beside its limit. Code hands it through as plain numbers.
-use Rattle.std.specs.Prelude.{ℕ, zero, suc, ◌-◌, Result}
+use Rattle.std.specs.Prelude.{ℕ, zero, suc, ◌-◌, Result, Ok, Err}
 use Rattle.limits.specs.declared.Resource.TheVariants.{Work, ValueEntries}
 use Rattle.limits.specs.declared.Stop.{Stop}
-use Rattle.limits.specs.declared.Charged.{Charged}
-use Rattle.limits.specs.declared.Charged.TheVariants.{Paid, Stopped}
 use Rattle.limits.specs.declared.Budget.{Budget}
 use Rattle.limits.specs.declared.Meter.{Meter}
 use Rattle.limits.specs.Charge.{charge_of}
@@ -20,9 +18,9 @@ abbrev pub with_entries : ℕ → Meter → Meter
 with_entries n m = meter m.work m.max_work n m.max_entries
 
 -- what a charge of one count makes of the meter: `put` stores the new count, a refused one changes nothing
-abbrev pub charged : (ℕ → Meter) → Meter → Charged → Run Stop Meter (Unit {0})
-charged put m (Paid n) = going tt (put n)
-charged put m (Stopped e n) = stopped e m
+abbrev pub charged : (ℕ → Meter) → Meter → Result ℕ Stop → Run Stop Meter (Unit {0})
+charged put m (Ok n) = going tt (put n)
+charged put m (Err e) = stopped e m
 
 unfoldable pub work : ℕ → Metered Stop Meter (Unit {0})
 work amount m = charged (λ n. with_work n m) m (charge_of Work m.work amount m.max_work)

@@ -2,13 +2,13 @@
 //! turned down with. Counts are charged in place, on a meter or a budget; no count ever wraps.
 #![tactic(auto)]
 
-ghost use Rattle.std.specs.Prelude.{◌≡◌, ◌-◌};
-ghost use Rattle.limits.specs.Charge.{charge_of, units_of, sum_of};
+ghost use Rattle.std.specs.Prelude.{◌≡◌};
+ghost use Rattle.limits.specs.Charge.{charge_of};
 ghost use Rattle.limits.specs.Records.{count_of, limit_of, with_count, with_statistics, fresh};
-ghost use Rattle.limits.specs.Refusal.{resource_number, told};
 ghost use Rattle.limits.specs.declared.Refusal.TheVariants.{Limit};
-ghost use Rattle.limits.specs.Budget.{ran, charge, released, widened_once};
-ghost use Rattle.limits.specs.Meter.{meter, meter_of, with_meter, units, retain, work as metered_work, released as fewer, held_through};
+ghost use Rattle.limits.specs.Refusal.{resource_number, told};
+ghost use Rattle.limits.specs.Budget.{charge, released, widened_once};
+ghost use Rattle.limits.specs.Meter.{meter_of, with_meter, units, retain, work as metered_work, released as fewer, held_through};
 ghost use Rattle.limits.specs.Metered.{answered};
 
 // Inclusive ceilings. Beside each stands its name in limits.rs.
@@ -78,25 +78,11 @@ pub enum Refusal {
     MissingSlot,
 }
 
-// What a charge makes of one count, which comes back beside the outcome.
-#[derive(Clone, Copy)]
-pub enum Charged {
-    Paid(u64),
-    Stopped(Stop, u64),
-}
-
 // The limits and the counts of one store.
 #[derive(Clone, Copy, Debug, PartialEq, Eq)]
 pub struct Budget {
     pub limits: Limits,
     pub statistics: Statistics,
-}
-
-// What a charge makes of a budget.
-#[derive(Clone, Copy)]
-pub enum Billed {
-    Paid(Budget),
-    Stopped(Stop, Budget),
 }
 
 // Work and live entries, each beside its limit: all that lattice and transfer charge.
@@ -109,9 +95,9 @@ pub struct Meter {
 }
 
 // A count with `amount` more: refused exactly when the sum exceeds the limit.
-#[tactic(auto, unfolding(crate::specs::Charge::sum_of), using(crate::proofs::CodeLaws::sum_over, crate::proofs::CodeLaws::sum_within))]
-pub fn add(resource: Resource, old: u64, amount: u64, limit: u64) -> Result<u64, Stop>
-    ensures { result ≡ sum_of resource old amount limit }
+#[tactic(auto, unfolding(crate::specs::Charge::charge_of), using(crate::proofs::CodeLaws::sum_over, crate::proofs::CodeLaws::sum_within))]
+pub fn charge(resource: Resource, old: u64, amount: u64, limit: u64) -> Result<u64, Stop>
+    ensures { result ≡ charge_of resource old amount limit }
 {
     match old.checked_add(amount) {
         Some(sum) if sum <= limit => Ok(sum),
@@ -135,7 +121,7 @@ impl Meter {
     pub fn work(&mut self, amount: u64) -> Result<(), Stop>
         ensures { answered result self.new ≡ metered_work amount self.old }
     {
-        self.work = add(Resource::Work, self.work, amount, self.max_work)?;
+        self.work = charge(Resource::Work, self.work, amount, self.max_work)?;
         Ok(())
     }
 
@@ -156,7 +142,7 @@ impl Meter {
     pub fn retain(&mut self, count: u64) -> Result<(), Stop>
         ensures { answered result self.new ≡ retain count self.old }
     {
-        self.entries = add(
+        self.entries = charge(
             Resource::ValueEntries,
             self.entries,
             count,
@@ -183,48 +169,12 @@ impl Meter {
     }
 }
 
-// A count with `amount` more: refused exactly when the sum exceeds the limit, and then as it was.
-pub fn charge(resource: Resource, old: u64, amount: u64, limit: u64) -> Charged
-    ensures { result ≡ charge_of resource old amount limit }
-{
-    match add(resource, old, amount, limit) {
-        Ok(sum) => Charged::Paid(sum),
-        Err(stop) => Charged::Stopped(stop, old),
-    }
-}
+// 01's number of the refusal that names a resource.
+impl From<Resource> for u64 {
+    ghost from_gives = { λ r n. n ≡ resource_number r };
 
-// `count` charges of one unit each: what a search pays that looks at `count` items. The first that is refused ends them.
-pub fn charge_units(resource: Resource, old: u64, count: u64, limit: u64) -> Charged
-    ensures { result ≡ units_of resource old count limit }
-{
-    if count == 0 {
-        return Charged::Paid(old);
-    }
-    if limit <= old {
-        return charge(resource, old, 1, limit);
-    }
-    if limit - old < count {
-        return charge(resource, limit, 1, limit);
-    }
-    Charged::Paid(old + count)
-}
-
-// `count` live entries fewer. Counts that no calls make stay at 0.
-pub fn release(entries: u64, count: u64) -> u64
-    ensures { result ≡ entries - count }
-{
-    if entries < count {
-        return 0;
-    }
-    entries - count
-}
-
-impl Resource {
-    // 01's number of the refusal that names this resource.
-    pub fn number(self) -> u64
-        ensures { result ≡ resource_number self }
-    {
-        match self {
+    fn from(resource: Resource) -> u64 {
+        match resource {
             Resource::Work => 3,
             Resource::InspectedBytes => 4,
             Resource::Predicates => 6,
@@ -236,22 +186,16 @@ impl Resource {
     }
 }
 
-impl Refusal {
-    // 01's number.
-    pub fn number(self) -> u64
-        ensures { result ≡ (told self).number }
-    {
-        match self {
-            Refusal::Closed => 1,
-            Refusal::Shape => 1,
+// 01's number of a refusal.
+impl From<Refusal> for u64 {
+    ghost from_gives = { λ r n. n ≡ (told r).number };
+
+    fn from(refusal: Refusal) -> u64 {
+        match refusal {
+            Refusal::Closed | Refusal::Shape => 1,
             Refusal::Full => 2,
-            Refusal::Limit(stop) => {
-                let resource = stop.resource;
-                resource.number()
-            }
-            Refusal::Missing => 5,
-            Refusal::Descending => 5,
-            Refusal::MissingSlot => 5,
+            Refusal::Limit(stop) => u64::from(stop.resource),
+            Refusal::Missing | Refusal::Descending | Refusal::MissingSlot => 5,
         }
     }
 }
@@ -358,7 +302,7 @@ impl Budget {
     pub fn pay(&mut self, resource: Resource, amount: u64) -> Result<(), Stop>
         ensures { answered result self.new ≡ charge resource amount self.old }
     {
-        let count = add(
+        let count = charge(
             resource,
             self.statistics.of(resource),
             amount,
@@ -400,71 +344,5 @@ impl Budget {
     {
         self.statistics.work = meter.work;
         self.statistics.entries = meter.entries;
-    }
-
-    // The same budget but for one resource's count.
-    pub fn with(self, resource: Resource, count: u64) -> Budget
-        ensures { result ≡ with_statistics (with_count resource count self.statistics) self }
-    {
-        let limits = self.limits;
-        let statistics = self.statistics;
-        Budget {
-            limits,
-            statistics: statistics.with(resource, count),
-        }
-    }
-
-    // The same budget with what was charged in numbers.
-    pub fn with_meter(self, work: u64, entries: u64) -> Budget
-        ensures { result ≡ with_meter (meter work self.limits.work entries self.limits.entries) self }
-    {
-        let held = self.with(Resource::ValueEntries, entries);
-        held.with(Resource::Work, work)
-    }
-
-    // The seven charges, by their resource. A refused one changes nothing.
-    pub fn charge(self, resource: Resource, amount: u64) -> Billed
-        ensures { ran result ≡ charge resource amount self }
-    {
-        let limits = self.limits;
-        let statistics = self.statistics;
-        match charge(
-            resource,
-            statistics.of(resource),
-            amount,
-            limits.of(resource),
-        ) {
-            Charged::Paid(count) => Billed::Paid(Budget {
-                limits,
-                statistics: statistics.with(resource, count),
-            }),
-            Charged::Stopped(stop, _) => Billed::Stopped(stop, self),
-        }
-    }
-
-    // `count` live entries fewer.
-    pub fn release(self, count: u64) -> Budget
-        ensures { result ≡ released count self }
-    {
-        let limits = self.limits;
-        let statistics = self.statistics;
-        let entries = release(statistics.entries, count);
-        Budget {
-            limits,
-            statistics: statistics.with(Resource::ValueEntries, entries),
-        }
-    }
-
-    // One argument more has lost its list. The count has no limit: it stays at the largest number.
-    pub fn widen(self) -> Budget
-        ensures { result ≡ widened_once self }
-    {
-        let limits = self.limits;
-        let mut statistics = self.statistics;
-        if statistics.widened == 18446744073709551615 {
-            return self;
-        }
-        statistics.widened = statistics.widened + 1;
-        Budget { limits, statistics }
     }
 }

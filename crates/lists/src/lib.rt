@@ -10,10 +10,8 @@ ghost use Rattle.lists.specs.Ids.{next_of, past, seen, merged};
 
 use limits::{Meter, Stop};
 
-mod bridge;
 mod ids;
 
-pub use bridge::{Verdict, length_of};
 pub use ids::Ids;
 
 // One live entry more of a list that has `held`, which are released where it is refused.

@@ -2,6 +2,7 @@
 -- bindings, guards and heads that name such. It all stays so while arguments are added and the table of expressions grows.
 use Prim.Native.Nat.{ℕ, zero, suc, ◌≤◌, ◌<◌}
 use native.Mathlib.Omega.{arith}
+use Rattle.std.proofs.Common.{Result, Ok, Err}
 use mathlib.Core.Path.{◌≡◌, refl, ◌∙◌}
 use mathlib.Core.Bool.{Bool, true}
 use mathlib.Core.List.{List, [], ◌∷◌}
@@ -9,11 +10,10 @@ use borrow.Author.Tests.{ltb-true}
 use lib.Dec.{ltb}
 use Rattle.integers.specs.Lists.{All}
 use Rattle.limits.specs.declared.Resource.TheVariants.{Work}
-use Rattle.limits.specs.declared.Charged.{Charged}
-use Rattle.limits.specs.declared.Charged.TheVariants.{Paid, Stopped}
 use Rattle.limits.specs.declared.Refusal.{Refusal}
 use Rattle.limits.specs.declared.Refusal.TheVariants.{Limit, Missing, MissingSlot}
 use Rattle.limits.specs.Refusal.{Told, told}
+use Rattle.limits.specs.declared.Stop.{Stop}
 use Rattle.limits.specs.Charge.{charge_of}
 use Rattle.limits.specs.Metered.{Metered, pure, ◌>>◌}
 use Rattle.limits.specs.declared.Meter.{Meter}
@@ -99,9 +99,9 @@ work_entries : (k : ℕ) (m : Meter) → Ends (λ _ n. n.entries ≡ m.entries) 
 unfolding work
 work_entries k m = go (charge_of Work m.work k m.max_work)
   where
-    go : (x : Charged) → Ends (λ _ n. n.entries ≡ m.entries) (λ _ n. n.entries ≡ m.entries) (inner.charged (λ n. with_work n m) m x)
-    go (Paid n) = completes refl
-    go (Stopped e n) = stops refl
+    go : (x : Result ℕ Stop) → Ends (λ _ n. n.entries ≡ m.entries) (λ _ n. n.entries ≡ m.entries) (inner.charged (λ n. with_work n m) m x)
+    go (Ok n) = completes refl
+    go (Err e) = stops refl
 
 pub finds_step : Finds (Unit {0}) step
 finds_step = record {

@@ -1,4 +1,2 @@
 pub mod CodeLaws
 pub mod Theorems
-pub mod Limits
-pub mod Counts

@@ -15,13 +15,6 @@ use interval::{Integrality, Interval};
 use lattice::Abstract;
 use limits::{Meter, Stop};
 
-mod bridge;
-
-pub use bridge::{
-    Narrowed, Noted, narrow_counted, note_counted, position_counted, restrict_counted,
-    restrict_interval_counted,
-};
-
 // The cells of a row: the expression's id, the interval's case and its two ends.
 pub const ROW: usize = 4;
 

@@ -33,7 +33,7 @@ fn put_told(line: &mut [u8], at: usize, refusal: Refusal) -> usize
     ensures puts { Puts (spaced_words (told_words (told refusal))) at line.old result line.new }
     ensures within { result ≤ at + 82 }
 {
-    let numbered = text::put_number(line, at, refusal.number());
+    let numbered = text::put_number(line, at, u64::from(refusal));
     match refusal {
         Refusal::Limit(stop) => {
             let limited = text::put_number(line, numbered, stop.limit);

@@ -1,3 +1,2 @@
 pub mod Row
 pub mod WellFormed
-pub mod Answers

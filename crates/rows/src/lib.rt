@@ -15,10 +15,6 @@ use interval::{Bound, Integrality, Interval};
 use lattice::{Abstract, Widening};
 use limits::{Meter, Stop};
 
-mod bridge;
-
-pub use bridge::{Copied, copied_at_counted};
-
 // The cells of a row: integrality, the interval's case and two ends, whether there is a list, its length, the reason,
 // 16 ids, and one unused.
 pub const ROW: usize = 24;

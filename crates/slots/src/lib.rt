@@ -15,13 +15,6 @@ use lattice::{Abstract, Widening};
 use limits::{Meter, Stop};
 use rules::Binding;
 
-mod bridge;
-
-pub use bridge::{
-    Counted, copy_rows_counted, drop_rows_counted, fill_tops_counted, mark_dependents_counted,
-    meet_arguments_counted, meet_owned_counted, refine_into_counted,
-};
-
 // The values of the first `count` rows are dropped.
 pub fn drop_rows(cells: &[u32], count: usize, meter: &mut Meter)
     ensures { meter.new ≡ released (total cells.now count) meter.old }

@@ -1,6 +1,7 @@
 -- What a computation may be stopped with. Whatever a rule does with its slots charges work and live entries alone: here that is followed through
 -- everything below a round.
 use Prim.Native.Nat.{ℕ, zero, suc, ◌+◌, min, ◌/◌}
+use Rattle.std.proofs.Common.{Result, Ok, Err}
 use mathlib.Core.Path.{◌≡◌, refl}
 use mathlib.Core.Logic.{◌⊎◌, inl, inr}
 use mathlib.Core.Bool.{Bool, true, false, cond, ◌&&◌, ◌||◌}
@@ -12,7 +13,6 @@ use Rattle.limits.specs.declared.Resource.{Resource}
 use Rattle.limits.specs.declared.Resource.TheVariants.{Work, ValueEntries}
 use Rattle.limits.specs.declared.Stop.{Stop}
 use Rattle.limits.specs.declared.Budget.{Budget}
-use Rattle.limits.specs.declared.Charged.TheVariants.{Paid, Stopped}
 use Rattle.limits.specs.Charge.{stop_of, charge_of}
 use Rattle.limits.specs.Records.{count_of, limit_of}
 use Rattle.limits.specs.Metered.{Run, Metered, pure, ◌>>=◌, ◌>>◌, fold_m, through}
@@ -104,26 +104,26 @@ module _ {S T A : Type 0} {R : Resource → Type 0} where
 -- ---- the charges
 
 module _ (R : Resource → Type 0) (r : Resource) (given : R r) where
-  meter_charged : (put : ℕ → Meter) (m : Meter) (t : Bool) (n limit observed old : ℕ) → Halted R (charged put m (cond t (Paid n) (Stopped (stop_of r limit observed) old)))
-  meter_charged put m true n limit observed old = completes tt
-  meter_charged put m false n limit observed old = stops given
+  meter_charged : (put : ℕ → Meter) (m : Meter) (t : Bool) (n limit observed : ℕ) → Halted R (charged put m (cond t (Ok n) (Err (stop_of r limit observed))))
+  meter_charged put m true n limit observed = completes tt
+  meter_charged put m false n limit observed = stops given
 
-  budget_charged : (b : Budget) (t : Bool) (n limit observed old : ℕ) → Halted R (budgets.charged r b (cond t (Paid n) (Stopped (stop_of r limit observed) old)))
-  budget_charged b true n limit observed old = completes tt
-  budget_charged b false n limit observed old = stops given
+  budget_charged : (b : Budget) (t : Bool) (n limit observed : ℕ) → Halted R (budgets.charged r b (cond t (Ok n) (Err (stop_of r limit observed))))
+  budget_charged b true n limit observed = completes tt
+  budget_charged b false n limit observed = stops given
 
 module _ {R : Resource → Type 0} where
   pub halts_charge : (r : Resource) → R r → (n : ℕ) → Halts R (budgets.charge r n)
   unfolding budgets.charge charge_of
-  halts_charge r g n = record { at = λ b. budget_charged R r g b (leb (count_of r b.statistics + n) (limit_of r b.limits)) _ _ _ _ }
+  halts_charge r g n = record { at = λ b. budget_charged R r g b (leb (count_of r b.statistics + n) (limit_of r b.limits)) _ _ _ }
 
   pub halts_work : R Work → (n : ℕ) → Halts R (work n)
   unfolding work charge_of
-  halts_work g n = record { at = λ m. meter_charged R Work g (λ k. with_work k m) m (leb (m.work + n) m.max_work) _ _ _ _ }
+  halts_work g n = record { at = λ m. meter_charged R Work g (λ k. with_work k m) m (leb (m.work + n) m.max_work) _ _ _ }
 
   pub halts_retain : R ValueEntries → (n : ℕ) → Halts R (retain n)
   unfolding retain charge_of
-  halts_retain g n = record { at = λ m. meter_charged R ValueEntries g (λ k. with_entries k m) m (leb (m.entries + n) m.max_entries) _ _ _ _ }
+  halts_retain g n = record { at = λ m. meter_charged R ValueEntries g (λ k. with_entries k m) m (leb (m.entries + n) m.max_entries) _ _ _ }
 
   pub halts_release : (n : ℕ) → Halts R (release n)
   unfolding release

@@ -12,8 +12,6 @@ use lib.ListN.{length, set}
 use Rattle.limits.specs.declared.Limits.{Limits}
 use Rattle.limits.specs.declared.Stop.{Stop}
 use Rattle.limits.specs.declared.Budget.{Budget}
-use Rattle.limits.specs.declared.Billed.{Billed}
-use Rattle.limits.specs.declared.Billed.TheVariants.{Paid, Stopped}
 use Rattle.limits.specs.declared.Refusal.TheVariants.{Closed, Shape, Full, Limit, Missing}
 use Rattle.limits.specs.declared.Refusal.{Refusal}
 use Rattle.limits.specs.Refusal.{Told, told}

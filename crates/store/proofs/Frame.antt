@@ -1,12 +1,11 @@
 -- What a call leaves of the header beside what it is for. Charges change work, links and inspected bytes, and nothing else.
 use Prim.Native.Nat.{ℕ, ◌≤◌}
 use native.Mathlib.Omega.{arith}
+use Rattle.std.proofs.Common.{Result, Ok, Err}
 use mathlib.Core.Path.{◌≡◌, refl, ◌∙◌}
 use Rattle.limits.specs.declared.Resource.TheVariants.{Work, Links, InspectedBytes}
 use Rattle.limits.specs.declared.Stop.{Stop}
 use Rattle.limits.specs.declared.Budget.{Budget}
-use Rattle.limits.specs.declared.Charged.{Charged}
-use Rattle.limits.specs.declared.Charged.TheVariants.{Paid, Stopped}
 use Rattle.limits.specs.declared.Refusal.TheVariants.{Limit}
 use Rattle.limits.specs.Refusal.{Told, told}
 use Rattle.limits.specs.Charge.{charge_of}
@@ -57,25 +56,25 @@ pub spends_work : (n : ℕ) → Spends (work n)
 unfolding charge
 spends_work n = record { at = λ b. go b (charge_of Work (count_of Work b.statistics) n (limit_of Work b.limits)) }
   where
-    go : (b : Budget) (x : Charged) → Ends (λ _ c. Spent b c) (λ _ c. Spent b c) (budgets.charged Work b x)
-    go b (Paid n) = completes record { limits = refl; predicates = refl; positions = refl; entries = refl; rounds = refl; widened = refl }
-    go b (Stopped e n) = stops (spent_none b)
+    go : (b : Budget) (x : Result ℕ Stop) → Ends (λ _ c. Spent b c) (λ _ c. Spent b c) (budgets.charged Work b x)
+    go b (Ok n) = completes record { limits = refl; predicates = refl; positions = refl; entries = refl; rounds = refl; widened = refl }
+    go b (Err e) = stops (spent_none b)
 
 pub spends_links : (n : ℕ) → Spends (links n)
 unfolding charge
 spends_links n = record { at = λ b. go b (charge_of Links (count_of Links b.statistics) n (limit_of Links b.limits)) }
   where
-    go : (b : Budget) (x : Charged) → Ends (λ _ c. Spent b c) (λ _ c. Spent b c) (budgets.charged Links b x)
-    go b (Paid n) = completes record { limits = refl; predicates = refl; positions = refl; entries = refl; rounds = refl; widened = refl }
-    go b (Stopped e n) = stops (spent_none b)
+    go : (b : Budget) (x : Result ℕ Stop) → Ends (λ _ c. Spent b c) (λ _ c. Spent b c) (budgets.charged Links b x)
+    go b (Ok n) = completes record { limits = refl; predicates = refl; positions = refl; entries = refl; rounds = refl; widened = refl }
+    go b (Err e) = stops (spent_none b)
 
 pub spends_bytes : (n : ℕ) → Spends (bytes n)
 unfolding charge
 spends_bytes n = record { at = λ b. go b (charge_of InspectedBytes (count_of InspectedBytes b.statistics) n (limit_of InspectedBytes b.limits)) }
   where
-    go : (b : Budget) (x : Charged) → Ends (λ _ c. Spent b c) (λ _ c. Spent b c) (budgets.charged InspectedBytes b x)
-    go b (Paid n) = completes record { limits = refl; predicates = refl; positions = refl; entries = refl; rounds = refl; widened = refl }
-    go b (Stopped e n) = stops (spent_none b)
+    go : (b : Budget) (x : Result ℕ Stop) → Ends (λ _ c. Spent b c) (λ _ c. Spent b c) (budgets.charged InspectedBytes b x)
+    go b (Ok n) = completes record { limits = refl; predicates = refl; positions = refl; entries = refl; rounds = refl; widened = refl }
+    go b (Err e) = stops (spent_none b)
 
 pub spends_then : {A B : Type 0} {m : Metered Stop Budget A} {n : Metered Stop Budget B} → Spends m → Spends n → Spends (m >> n)
 spends_then {m} {n} h k = record {

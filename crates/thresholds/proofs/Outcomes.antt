@@ -1,6 +1,7 @@
 -- What `enter` leaves, in three ways: the number stood already, it is new, or a charge was refused. All else about it follows from these.
 use Prim.Native.Nat.{ℕ, ◌+◌, ◌-◌, ◌≤◌, ◌<◌}
 use native.Mathlib.Omega.{arith}
+use Rattle.std.proofs.Common.{Result, Ok, Err}
 use mathlib.Core.Path.{◌≡◌, refl, sym, subst, ◌∙◌}
 use mathlib.Core.Bool.{Bool, true, false, cond}
 use lib.IntN.{ℤ}
@@ -9,8 +10,6 @@ use Rattle.integers.specs.Lists.{inserted}
 use Rattle.limits.specs.declared.Resource.TheVariants.{Work, Links}
 use Rattle.limits.specs.declared.Stop.{Stop}
 use Rattle.limits.specs.declared.Budget.{Budget}
-use Rattle.limits.specs.declared.Charged.{Charged}
-use Rattle.limits.specs.declared.Charged.TheVariants.{Paid, Stopped}
 use Rattle.limits.specs.Charge.{charge_of}
 use Rattle.limits.specs.Records.{count_of, limit_of}
 use Rattle.limits.specs.Metered.{Run, going, stopped, pure, after, ◌>>=◌, ◌>>◌, through, mapped}
@@ -62,21 +61,21 @@ abbrev Charges : Budget → Run Stop Budget (Unit {0}) → Type 0
 Charges b (going a c) = Charging b c
 Charges b (stopped e c) = Charging b c
 
-work_charges : (b : Budget) (x : Charged) → Charges b (charged Work b x)
-work_charges b (Paid n) = record { limits = refl; predicates = refl; positions = refl; entries = refl; rounds = refl; bytes = refl; widened = refl }
-work_charges b (Stopped e n) = charging_none b
+work_charges : (b : Budget) (x : Result ℕ Stop) → Charges b (charged Work b x)
+work_charges b (Ok n) = record { limits = refl; predicates = refl; positions = refl; entries = refl; rounds = refl; bytes = refl; widened = refl }
+work_charges b (Err e) = charging_none b
 
-links_charges : (b : Budget) (x : Charged) → Charges b (charged Links b x)
-links_charges b (Paid n) = record { limits = refl; predicates = refl; positions = refl; entries = refl; rounds = refl; bytes = refl; widened = refl }
-links_charges b (Stopped e n) = charging_none b
+links_charges : (b : Budget) (x : Result ℕ Stop) → Charges b (charged Links b x)
+links_charges b (Ok n) = record { limits = refl; predicates = refl; positions = refl; entries = refl; rounds = refl; bytes = refl; widened = refl }
+links_charges b (Err e) = charging_none b
 
 cost_charges : (n : ℕ) (b : Budget) → Charges b (cost n b)
 unfolding cost charge ◌>>◌ ◌>>=◌ after
 cost_charges n b = let x = charge_of Work (count_of Work b.statistics) n (limit_of Work b.limits) in go (charged Work b x) (work_charges b x)
   where
-    second : {c : Budget} → Charging b c → (x : Charged) → Charges c (charged Links c x) → Charges b (charged Links c x)
-    second h (Paid n) k = charging_more h k
-    second h (Stopped e n) k = charging_more h k
+    second : {c : Budget} → Charging b c → (x : Result ℕ Stop) → Charges c (charged Links c x) → Charges b (charged Links c x)
+    second h (Ok n) k = charging_more h k
+    second h (Err e) k = charging_more h k
 
     go : (x : Run Stop Budget (Unit {0})) → Charges b x → Charges b (after x (λ _. links 1))
     go (going a c) h =

@@ -1,4 +1,3 @@
 pub mod CodeLaws
 pub mod Place
 pub mod Rule
-pub mod Framed

@@ -6,9 +6,6 @@ ghost use Rattle.std.specs.Int.Signed.{le_z};
 ghost use Rattle.limits.specs.Metered.{answered};
 ghost use Rattle.widening.specs.Widening.{first_of, below, above, widen_low, widen_high, with_ends, widen, growth_at, put_growth, no_growth};
 
-mod bridge;
-
-pub use bridge::{Widened, widen_counted};
 use interval::Interval;
 use limits::{Meter, Stop};
 
