@@ -1,6 +1,5 @@
-pub mod Parents
-pub mod Operands
 pub mod CodeLaws
+pub mod Operands
 pub mod Formed
 pub mod Live
 pub mod Steady

@@ -12,8 +12,8 @@ ghost use Rattle.lattice.specs.Constants.{constant_at};
 ghost use Rattle.lattice.specs.Lattice.{constant, numeric, copied};
 ghost use Rattle.rows.specs.Row.{id_of, entries_of, value_at};
 ghost use Rattle.refinements.specs.Refinement.{narrow, restrict};
-ghost use Rattle.evaluation.specs.Evaluation.{known_identity, identical, combined, unknown, after_one, after_two, expression, both};
-ghost use Rattle.evaluation.specs.Operands.{input_in, known_of, operand, numeral, sees, sees_both, dropped};
+ghost use Rattle.evaluation.specs.Evaluation.{known_identity, identical, unknown, expression, both};
+ghost use Rattle.evaluation.specs.Operands.{input_in, known_of, operand, numeral, sees, sees_both, combining, one_left, two_left};
 
 use interval::{Bound, Integrality, Interval};
 use lattice::{Abstract, Widening};
@@ -115,11 +115,7 @@ fn unknown(integer: bool, reason: Widening) -> Abstract
 }
 
 // A value without a list that is narrowed: its bound is all that changes.
-fn narrow_bound(
-    bound: Bound,
-    restriction: Interval,
-    meter: &mut Meter,
-) -> Result<Operand, Stop>
+fn narrow_bound(bound: Bound, restriction: Interval, meter: &mut Meter) -> Result<Operand, Stop>
     ensures { (constants : List ℕ) (reason : Reason) → answered result meter.new ≡ sees (narrow constants restriction (value bound none reason) meter.old) }
 {
     if let Integrality::Mixed = bound.integrality {
@@ -141,7 +137,7 @@ impl<'a> Input<'a> {
         Abstract::constant(short, key, self.width, meter)
     }
 
-    // The interval of a node with two children.
+    // The interval of a node with two children, and the unit of work before it.
     fn combine(
         &self,
         op: BinaryOp,
@@ -151,8 +147,9 @@ impl<'a> Input<'a> {
         y: Interval,
         meter: &mut Meter,
     ) -> Result<Interval, Stop>
-        ensures { answered result meter.new ≡ combined self.now.nodes.now self.now.constants.now op left right x y meter.old }
+        ensures { answered result meter.new ≡ combining self.now.nodes.now self.now.constants.now op left right x y meter.old }
     {
+        meter.work(1)?;
         if operators::is_empty(x) || operators::is_empty(y) {
             return Ok(Interval::Bottom);
         }
@@ -198,8 +195,13 @@ impl Scene<'_> {
         if self.count == 0 {
             return Ok(numeral(interval));
         }
-        let narrow =
-            refinements::restrict_interval(interval, self.refinements, self.count, id, meter)?;
+        let narrow = refinements::restrict_interval(
+            interval,
+            self.refinements,
+            self.count,
+            id,
+            meter,
+        )?;
         Ok(numeral(narrow))
     }
 
@@ -211,10 +213,11 @@ impl Scene<'_> {
         listed: u64,
         meter: &mut Meter,
     ) -> Result<Operand, Stop>
-        ensures { (a : Value) → entries_of a ≡ listed → answered result meter.new ≡ sees (after (after_one interval a meter.old) (restrict self.now.input.constants.now (known_of self.now) id)) }
+        ensures { answered result meter.new ≡ sees (after (one_left interval listed meter.old) (restrict self.now.input.constants.now (known_of self.now) id)) }
     {
+        let paid = meter.work(1);
         meter.release(listed);
-        meter.work(1)?;
+        paid?;
         self.narrow_interval(interval, id, meter)
     }
 
@@ -229,15 +232,14 @@ impl Scene<'_> {
         b: Operand,
         meter: &mut Meter,
     ) -> Result<Operand, Stop>
-        ensures { (x y : Value) → operand x ≡ a → operand y ≡ b → answered result meter.new ≡ sees (after (dropped (entries_of x) (after_two self.now.input.nodes.now self.now.input.constants.now op left right x y meter.old)) (restrict self.now.input.constants.now (known_of self.now) id)) }
+        ensures { answered result meter.new ≡ sees (after (two_left self.now.input.nodes.now self.now.input.constants.now op left right a b meter.old) (restrict self.now.input.constants.now (known_of self.now) id)) }
     {
-        meter.release(a.entries);
+        let interval = self
+            .input
+            .combine(op, left, right, a.bound.interval, b.bound.interval, meter);
         meter.release(b.entries);
-        meter.work(1)?;
-        let interval =
-            self.input
-                .combine(op, left, right, a.bound.interval, b.bound.interval, meter)?;
-        self.narrow_interval(interval, id, meter)
+        meter.release(a.entries);
+        self.narrow_interval(interval?, id, meter)
     }
 
     // A slot that is narrowed, as an operand. Its ids are read only where it has a list.
@@ -263,16 +265,19 @@ impl Scene<'_> {
     {
         rows::copied_at(self.slots, slot, meter)?;
         let listed = rows::entries_at(self.slots, slot);
-        let place = refinements::position(self.refinements, self.count, id, meter);
-        match meter.holding(listed, place)? {
-            Some(k) => {
+        match refinements::position(self.refinements, self.count, id, meter) {
+            Ok(Some(k)) => {
                 let restriction = refinements::restriction_at(self.refinements, k);
                 self.narrow_slot(slot, restriction, meter)
             }
-            None => Ok(Operand {
+            Ok(None) => Ok(Operand {
                 bound: rows::bound_at(self.slots, slot),
                 entries: listed,
             }),
+            Err(stop) => {
+                meter.release(listed);
+                Err(stop)
+            }
         }
     }
 
@@ -336,12 +341,7 @@ impl Scene<'_> {
     }
 
     // Two expressions: the first is live while the second is worked out.
-    pub fn both(
-        &self,
-        left: u64,
-        right: u64,
-        meter: &mut Meter,
-    ) -> Result<(Operand, Operand), Stop>
+    pub fn both(&self, left: u64, right: u64, meter: &mut Meter) -> Result<(Operand, Operand), Stop>
         ensures { answered result meter.new ≡ sees_both (both (input_in self.now.input) self.now.slots.now (known_of self.now) left right meter.old) }
     {
         let a = self.as_operand(left, meter)?;
