@@ -88,15 +88,24 @@ comparison i n left relation right = with_both i n left right (compared i.nodes 
 
 -- ---- a membership guard: nothing is recorded of it
 
+-- the slot and both values have numbers alone
+abbrev pub spanning? : Value → Value → Value → Bool
+spanning? own a b = integer? own && (integer? a && integer? b)
+
 unfoldable pub member : List ℕ → ℕ → ℕ → Value → Value → Metered Stop Local ℕ
 member constants n slot a b s =
-    cond (integer? (value_at s.produced slot) && (integer? a && integer? b))
+    cond (spanning? (value_at s.produced slot) a b)
     ((in_slots (refine_into constants slot (span a.bound.interval b.bound.interval)) >> pure n) s) (pure n s)
 
 abbrev pub membership : Input → ℕ → ℕ → ℕ → ℕ → Metered Stop Local ℕ
 membership i n slot low high = with_both i n low high (member i.constants n slot)
 
 -- ---- all guards
+
+-- the two expressions that a guard works out
+abbrev pub operands : Guard → ℕ × ℕ
+operands (Compare left relation right) = (left, right)
+operands (Membership slot low high) = (low, high)
 
 abbrev pub guard_one : Input → ℕ → Guard → Metered Stop Local ℕ
 guard_one i n (Compare left relation right) = comparison i n left relation right

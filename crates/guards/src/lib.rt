@@ -8,7 +8,7 @@ ghost use Rattle.rules.specs.Read.{slots_at, guards_at};
 ghost use Rattle.slots.specs.Slots.{slots};
 ghost use Rattle.refinements.specs.Refinement.{integer?};
 ghost use Rattle.evaluation.specs.Operands.{input_in};
-ghost use Rattle.guards.specs.Guards.{local, narrow_slot, narrow_known, refine_operand, refine_both, compared, member, narrowing?, guard_one, guard_all, guard};
+ghost use Rattle.guards.specs.Guards.{local, narrow_slot, narrow_known, refine_operand, refine_both, compared, member, narrowing?, spanning?, operands, guard_one, guard_all, guard};
 ghost use Rattle.guards.specs.Operands.{bare};
 
 use affine::Affine;
@@ -67,15 +67,7 @@ fn refine_operand(
     if !evaluation::known_identity(input.nodes, id, meter)? {
         return Ok(count);
     }
-    narrow_known(
-        produced,
-        refinements,
-        count,
-        id,
-        restriction,
-        input,
-        meter,
-    )
+    narrow_known(produced, refinements, count, id, restriction, input, meter)
 }
 
 // The left operand of a comparison lies in one interval and the right one in another.
@@ -141,6 +133,13 @@ fn compare(
     )
 }
 
+// Whether a slot with the bound `own` is narrowed by what lies between two values.
+fn is_spanning(own: Bound, a: Bound, b: Bound) -> bool
+    ensures { result ≡ spanning? (bare own) (bare a) (bare b) }
+{
+    is_integer(own) && is_integer(a) && is_integer(b)
+}
+
 // A slot lies between two values. Nothing is recorded of it.
 fn member(
     produced: &mut [u32],
@@ -154,11 +153,21 @@ fn member(
     ensures { (refinements : List ℕ) → answered result (local meter.new produced.new refinements) ≡ member constants.now count slot (bare a) (bare b) (local meter.old produced.old refinements) }
 {
     let own = rows::bound_at(produced, slot);
-    if is_integer(own) && is_integer(a) && is_integer(b) {
+    if is_spanning(own, a, b) {
         let span = operators::span(a.interval, b.interval);
         slots::refine_into(produced, slot, span, constants, meter)?;
     }
     Ok(count)
+}
+
+// The two expressions that a guard works out.
+fn operands(guard: Guard) -> (u64, u64)
+    ensures { result ≡ operands guard }
+{
+    match guard {
+        Guard::Compare { left, right, .. } => (left, right),
+        Guard::Membership { low, high, .. } => (low, high),
+    }
 }
 
 // One guard. Both its expressions stay live until it has ended.
@@ -172,10 +181,7 @@ fn guard_one(
 ) -> Result<usize, Stop>
     ensures { answered result (local meter.new produced.new refinements.new) ≡ guard_one (input_in input.now) count guard (local meter.old produced.old refinements.old) }
 {
-    let (first, second) = match guard {
-        Guard::Compare { left, right, .. } => (left, right),
-        Guard::Membership { low, high, .. } => (low, high),
-    };
+    let (first, second) = operands(guard);
     let scene = Scene {
         input: *input,
         slots: produced,

@@ -1,14 +1,13 @@
 -- `guards::compare` meets its contract.
-use Rattle.guards.proofs.CodeLaws.{compared_yes, compared_no}
-use Rattle.guards.specs.Answers.{bare}
+use mathlib.Core.Path.{sym}
+use Rattle.limits.proofs.Monad.{yes_on, no_on, pure_is}
+use Rattle.guards.specs.Guards.{compared}
 use Rattle.guards.proofs.compare.Goals as goal
 
-pub returns-then-is_narrowing : goal.returns-then-is_narrowing
-returns-then-is_narrowing c =
-    let a = c.args in
-    compared_yes a.nodes.now a.constants.now a.count a.left a.relation a.right (bare a.a) (bare a.b) c.is_narrowing.ensures c.if-is_narrowing.true c.restricted.ensures c.flipped.ensures c.restricted-then-is_narrowing.ensures c.refine_both.ensures
+pub returns-then-not-is_narrowing : goal.returns-then-not-is_narrowing
+unfolding compared
+returns-then-not-is_narrowing c = no_on _ _ _ (sym c.if-not-is_narrowing.ensures) (pure_is _ _)
 
 pub returns : goal.returns
-returns c =
-    let a = c.args in
-    compared_no a.nodes.now a.constants.now a.count a.left a.relation a.right (bare a.a) (bare a.b) c.is_narrowing.ensures c.if-is_narrowing.false
+unfolding compared
+returns c = yes_on _ _ _ (sym c.if-not-is_narrowing.ensures) (rw (c.restricted.ensures, c.restricted-2.ensures, c.flipped.ensures) at c.refine_both.ensures)

@@ -1,20 +1,27 @@
 -- `guards::guard` meets its contract.
-use Rattle.rules.specs.Read.{guards_at}
-use Rattle.evaluation.specs.Evaluation.{input}
-use Rattle.guards.proofs.CodeLaws.{copies_stopped, guard_stopped, guard_done}
+use mathlib.Core.Path.{sym}
+use Rattle.limits.proofs.Answering.{exits}
+use Rattle.limits.proofs.Monad.{then_stop, then_on, through_stop, through_on}
+use Rattle.slots.specs.Slots.{total, copies}
+use Rattle.guards.specs.Guards.{fewer, guard}
+use Rattle.guards.proofs.CodeLaws.{halted, passed}
 use Rattle.guards.proofs.guard.Goals as goal
 
-pub returns-in-Stopped : goal.returns-in-Stopped
-returns-in-Stopped c =
-    let a = c.args in
-    copies_stopped (input a.nodes.now a.constants.now a.width) a.domains.now c.slots_at-count.ensures (guards_at a.rules.now a.id) a.work a.max_work a.entries a.max_entries a.produced.now a.refinements.now _ c.copy_rows_counted.ensures c.in-Stopped.is
+pub returns-in_err-copy_rows : goal.returns-in_err-copy_rows
+unfolding guard
+returns-in_err-copy_rows c =
+    rw (← c.slots_at-count.ensures) (exits _ c.from_residual.ensures.1 (then_stop _ _ _ (through_stop _ _ _ _ (copies _ _ _) _ c.in_err-copy_rows.ensures)))
 
-pub returns-in-Stopped-guard_rows : goal.returns-in-Stopped-guard_rows
-returns-in-Stopped-guard_rows c =
-    let a = c.args in
-    guard_stopped (input a.nodes.now a.constants.now a.width) a.domains.now c.slots_at-count.ensures (guards_at a.rules.now a.id) a.work a.max_work a.entries a.max_entries a.produced.now a.refinements.now _ c.copy_rows_counted.ensures c.in-Going.is c.guard_rows.ensures c.in-Stopped-guard_rows.is c.drop_rows_counted.ensures
+pub returns-then-is_err : goal.returns-then-is_err
+unfolding guard
+returns-then-is_err c =
+    rw (← c.slots_at-count.ensures, c.drop_rows.ensures)
+    (then_on _ _ _ (through_on _ _ _ _ (copies _ _ _) _ c.in_ok-copy_rows.ensures)
+    (halted (λ s. fewer (total s.produced c.slots_at-count.result) s) _ _ _ _ (sym c.if-is_err.ensures.value) c.guard_rows-guarded.ensures))
 
-pub returns-in-Done : goal.returns-in-Done
-returns-in-Done c =
-    let a = c.args in
-    guard_done (input a.nodes.now a.constants.now a.width) a.domains.now c.slots_at-count.ensures (guards_at a.rules.now a.id) a.work a.max_work a.entries a.max_entries a.produced.now a.refinements.now _ c.copy_rows_counted.ensures c.in-Going.is c.guard_rows.ensures c.in-Done.is
+pub returns-else-is_err : goal.returns-else-is_err
+unfolding guard
+returns-else-is_err c =
+    rw (← c.slots_at-count.ensures)
+    (then_on _ _ _ (through_on _ _ _ _ (copies _ _ _) _ c.in_ok-copy_rows.ensures)
+    (passed (λ s. fewer (total s.produced c.slots_at-count.result) s) _ _ _ _ (sym c.if-is_err.ensures.value) c.guard_rows-guarded.ensures))

@@ -1,30 +1,34 @@
 -- `guards::guard_rows` meets its contract.
 use native.Mathlib.Omega.{arith}
-use mathlib.Core.Path.{refl, ◌∙◌}
-use Rattle.rules.specs.Read.{guard_at}
-use Rattle.evaluation.specs.Evaluation.{input}
-use Rattle.guards.proofs.CodeLaws.{guards_begun, guards_stop, guards_go, guards_end}
+use mathlib.Core.Path.{refl}
+use Rattle.limits.proofs.Answering.{exits}
+use Rattle.limits.proofs.Monad.{then_stop, then_on, through_stop, through_on}
+use Rattle.limits.specs.Meter.{work}
+use Rattle.guards.specs.Guards.{guard_step, guard_all}
+use Rattle.guards.proofs.CodeLaws.{folding, folded, fold_stops, fold_goes}
 use Rattle.guards.proofs.guard_rows.Goals as goal
 
 pub loop-j-init : goal.loop-j-init
-loop-j-init c =
-    let a = c.args in
-    (refl, (refl, guards_begun (input a.nodes.now a.constants.now a.width) (guard_at a.rules.now a.id) _ c.guard_count-n.ensures))
+loop-j-init c = folding _ _ _ _ _
 
-pub returns-in-Stopped : goal.returns-in-Stopped
-returns-in-Stopped c =
-    let a = c.args in
-    guards_stop (input a.nodes.now a.constants.now a.width) (guard_at a.rules.now a.id) _ _ _ c.loop-j.invariant.1.1 c.loop-j-test.true c.guard_at.ensures c.guard_step.ensures c.in-Stopped.is
+pub returns-in_err-work : goal.returns-in_err-work
+unfolding guard_all guard_step
+returns-in_err-work c =
+    rw (← c.guard_count-j-end.ensures)
+    (exits _ c.from_residual.ensures.1 (fold_stops _ _ _ _ _ _ c.loop-j.invariant c.loop-j-test.true refl (then_stop _ _ _ (through_stop _ _ _ _ (work 1) _ c.in_err-work.ensures))))
 
-pub loop-j-smaller : goal.loop-j-smaller
-loop-j-smaller c = omega arith
+pub returns-in_err-count : goal.returns-in_err-count
+unfolding guard_all guard_step
+returns-in_err-count c =
+    rw (← c.guard_count-j-end.ensures)
+    (exits _ c.from_residual-in_err-count.ensures.1
+    (fold_stops _ _ _ _ _ _ c.loop-j.invariant c.loop-j-test.true c.guard_at-guard.ensures (then_on _ _ _ (through_on _ _ _ _ (work 1) _ c.in_ok-work.ensures) c.in_err-count.ensures)))
 
 pub loop-j-preserved : goal.loop-j-preserved
+unfolding guard_step
 loop-j-preserved c =
-    let a = c.args in
-    (c.produced-1.given ∙ c.loop-j.invariant.0, (c.refinements-1.given ∙ c.loop-j.invariant.1.0, guards_go (input a.nodes.now a.constants.now a.width) (guard_at a.rules.now a.id) _ _ _ c.loop-j.invariant.1.1 c.loop-j-test.true c.guard_at.ensures c.guard_step.ensures c.in-Done.is))
+    fold_goes _ _ _ _ _ _ c.loop-j.invariant c.loop-j-test.true c.guard_at-guard.ensures (then_on _ _ _ (through_on _ _ _ _ (work 1) _ c.in_ok-work.ensures) c.in_ok-count.ensures)
 
 pub returns : goal.returns
-returns c =
-    let a = c.args in
-    guards_end (input a.nodes.now a.constants.now a.width) (guard_at a.rules.now a.id) _ _ _ c.loop-j.invariant.1.1 (omega arith)
+unfolding guard_all
+returns c = rw (← c.guard_count-j-end.ensures) (folded _ _ _ _ _ _ c.loop-j.invariant (omega arith))

@@ -1,29 +1,23 @@
 -- `guards::member` meets its contract.
-use Rattle.guards.proofs.CodeLaws.{own_named, low_named, high_named, member_stopped, member_done}
-use Rattle.guards.specs.Answers.{bare}
+use Rattle.limits.proofs.Answering.{exits}
+use Rattle.limits.proofs.Monad.{then_stop, then_on, through_stop, through_on, pure_is}
+use Rattle.slots.specs.Slots.{refine_into}
+use Rattle.guards.specs.Guards.{member}
 use Rattle.guards.proofs.member.Goals as goal
 
-pub returns-then-not-is_integer : goal.returns-then-not-is_integer
-returns-then-not-is_integer c =
-    let a = c.args in
-    own_named a.constants.now a.count a.slot (bare a.a) (bare a.b) a.work a.max_work a.entries a.max_entries a.produced.now c.bound_at-own.ensures c.is_integer.ensures c.if-not-is_integer.true
+pub returns-in_err-refine_into : goal.returns-in_err-refine_into
+unfolding member
+returns-in_err-refine_into c r =
+    exits _ c.from_residual.ensures.1
+    (rw (← rw c.bound_at-own.ensures at c.if-is_spanning.ensures)
+    (then_stop _ _ _ (through_stop _ _ _ _ (refine_into _ _ _) _ (rw c.span-span.ensures at c.in_err-refine_into.ensures))))
 
-pub returns-then-not-is_integer-2 : goal.returns-then-not-is_integer-2
-returns-then-not-is_integer-2 c =
-    let a = c.args in
-    low_named a.constants.now a.count a.slot (bare a.a) (bare a.b) a.work a.max_work a.entries a.max_entries a.produced.now c.bound_at-own.ensures c.is_integer.ensures c.if-not-is_integer.false c.is_integer-2.ensures c.if-not-is_integer-2.true
+pub returns-in_ok-refine_into : goal.returns-in_ok-refine_into
+unfolding member
+returns-in_ok-refine_into c r =
+    rw (← rw c.bound_at-own.ensures at c.if-is_spanning.ensures)
+    (then_on _ _ _ (through_on _ _ _ _ (refine_into _ _ _) _ (rw c.span-span.ensures at c.in_ok-refine_into.ensures)) (pure_is _ _))
 
-pub returns-then-not-is_integer-3 : goal.returns-then-not-is_integer-3
-returns-then-not-is_integer-3 c =
-    let a = c.args in
-    high_named a.constants.now a.count a.slot (bare a.a) (bare a.b) a.work a.max_work a.entries a.max_entries a.produced.now c.bound_at-own.ensures c.is_integer.ensures c.if-not-is_integer.false c.is_integer-2.ensures c.if-not-is_integer-2.false c.is_integer-3.ensures c.if-not-is_integer-3.true
-
-pub returns-in-Stopped : goal.returns-in-Stopped
-returns-in-Stopped c =
-    let a = c.args in
-    member_stopped a.constants.now a.count a.slot (bare a.a) (bare a.b) a.work a.max_work a.entries a.max_entries a.produced.now c.bound_at-own.ensures c.is_integer.ensures c.if-not-is_integer.false c.is_integer-2.ensures c.if-not-is_integer-2.false c.is_integer-3.ensures c.if-not-is_integer-3.false c.span.ensures _ _ c.refine_into_counted.ensures c.in-Stopped.is
-
-pub returns-in-Going : goal.returns-in-Going
-returns-in-Going c =
-    let a = c.args in
-    member_done a.constants.now a.count a.slot (bare a.a) (bare a.b) a.work a.max_work a.entries a.max_entries a.produced.now c.bound_at-own.ensures c.is_integer.ensures c.if-not-is_integer.false c.is_integer-2.ensures c.if-not-is_integer-2.false c.is_integer-3.ensures c.if-not-is_integer-3.false c.span.ensures _ _ c.refine_into_counted.ensures c.in-Going.is
+pub returns-else-is_spanning : goal.returns-else-is_spanning
+unfolding member
+returns-else-is_spanning c r = rw (← rw c.bound_at-own.ensures at c.if-is_spanning.ensures) (pure_is _ _)

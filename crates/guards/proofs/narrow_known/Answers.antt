@@ -1,18 +1,25 @@
 -- `guards::narrow_known` meets its contract.
-use Rattle.guards.proofs.CodeLaws.{known_refused, known_stopped, known_done}
+use Rattle.limits.proofs.Answering.{exits}
+use Rattle.limits.proofs.Monad.{bind_stop, bind_on, then_stop, then_on, through_stop, through_on, pure_is}
+use Rattle.guards.specs.Guards.{narrow_known}
+use Rattle.refinements.specs.Refinement.{note}
+use Rattle.guards.specs.Guards.{narrow_slot}
 use Rattle.guards.proofs.narrow_known.Goals as goal
 
-pub returns-in-Stopped : goal.returns-in-Stopped
-returns-in-Stopped c =
-    let a = c.args in
-    known_refused a.nodes.now a.constants.now a.count a.id a.restriction a.work a.max_work a.entries a.max_entries a.produced.now a.refinements.now c.note_counted.ensures c.in-Stopped.is
+pub returns-in_err-recorded : goal.returns-in_err-recorded
+unfolding narrow_known
+returns-in_err-recorded c =
+    exits _ c.from_residual.ensures.1 (bind_stop _ _ _ (through_stop _ _ _ _ (note _ _ _) _ c.in_err-recorded.ensures))
 
-pub returns-in-Stopped-narrow_slot : goal.returns-in-Stopped-narrow_slot
-returns-in-Stopped-narrow_slot c =
-    let a = c.args in
-    known_stopped a.nodes.now a.constants.now a.count a.id a.restriction a.work a.max_work a.entries a.max_entries a.produced.now a.refinements.now c.note_counted.ensures c.in-At.is c.affine_of.ensures _ _ c.narrow_slot.ensures c.in-Stopped-narrow_slot.is
+pub returns-in_err-narrow_slot : goal.returns-in_err-narrow_slot
+unfolding narrow_known
+returns-in_err-narrow_slot c =
+    exits _ c.from_residual-in_err-narrow_slot.ensures.1
+    (bind_on _ _ _ (through_on _ _ _ _ (note _ _ _) _ c.in_ok-recorded.ensures)
+    (then_stop _ _ _ (through_stop _ _ _ _ (narrow_slot _ _ _) _ (rw c.affine_of-affine.ensures at c.in_err-narrow_slot.ensures))))
 
-pub returns-in-Going : goal.returns-in-Going
-returns-in-Going c =
-    let a = c.args in
-    known_done a.nodes.now a.constants.now a.count a.id a.restriction a.work a.max_work a.entries a.max_entries a.produced.now a.refinements.now c.note_counted.ensures c.in-At.is c.affine_of.ensures _ _ c.narrow_slot.ensures c.in-Going.is
+pub returns : goal.returns
+unfolding narrow_known
+returns c =
+    bind_on _ _ _ (through_on _ _ _ _ (note _ _ _) _ c.in_ok-recorded.ensures)
+    (then_on _ _ _ (through_on _ _ _ _ (narrow_slot _ _ _) _ (rw c.affine_of-affine.ensures at c.in_ok-narrow_slot.ensures)) (pure_is _ _))

@@ -1,13 +1,13 @@
 -- `guards::refine_both` meets its contract.
-use Rattle.guards.proofs.CodeLaws.{left_stopped, left_done}
+use Rattle.limits.proofs.Answering.{exits}
+use Rattle.limits.proofs.Monad.{bind_stop, bind_on}
+use Rattle.guards.specs.Guards.{refine_both}
 use Rattle.guards.proofs.refine_both.Goals as goal
 
-pub returns-in-Stopped : goal.returns-in-Stopped
-returns-in-Stopped c =
-    let a = c.args in
-    left_stopped a.nodes.now a.constants.now a.count a.left a.x a.right a.y c.refine_operand.ensures c.in-Stopped.is
+pub returns-in_err-recorded : goal.returns-in_err-recorded
+unfolding refine_both
+returns-in_err-recorded c = exits _ c.from_residual.ensures.1 (bind_stop _ _ _ c.in_err-recorded.ensures)
 
-pub returns-in-Done : goal.returns-in-Done
-returns-in-Done c =
-    let a = c.args in
-    left_done a.nodes.now a.constants.now a.count a.left a.x a.right a.y c.refine_operand.ensures c.in-Done.is c.refine_operand-in-Done.ensures
+pub returns : goal.returns
+unfolding refine_both
+returns c = bind_on _ _ _ c.in_ok-recorded.ensures c.refine_operand-2.ensures

@@ -1,18 +1,23 @@
 -- `guards::refine_operand` meets its contract.
-use Rattle.guards.proofs.CodeLaws.{operand_stopped, operand_unknown, operand_known}
+use Rattle.limits.proofs.Answering.{exits}
+use Rattle.limits.proofs.Monad.{bind_stop, bind_on, through_stop, through_on, yes_on, no_on, pure_is}
+use Rattle.evaluation.specs.Evaluation.{known_identity}
+use Rattle.guards.specs.Guards.{refine_operand}
 use Rattle.guards.proofs.refine_operand.Goals as goal
 
-pub returns-in-Stopped : goal.returns-in-Stopped
-returns-in-Stopped c =
-    let a = c.args in
-    operand_stopped a.nodes.now a.constants.now a.count a.id a.restriction a.work a.max_work a.entries a.max_entries a.produced.now a.refinements.now c.known_identity.ensures c.in-Stopped.is
+pub returns-in_err-known_identity : goal.returns-in_err-known_identity
+unfolding refine_operand
+returns-in_err-known_identity c =
+    exits _ c.from_residual.ensures.1 (bind_stop _ _ _ (through_stop _ _ _ _ (known_identity _ _) _ c.in_err-known_identity.ensures))
 
-pub returns-in-No : goal.returns-in-No
-returns-in-No c =
-    let a = c.args in
-    operand_unknown a.nodes.now a.constants.now a.count a.id a.restriction a.work a.max_work a.entries a.max_entries a.produced.now a.refinements.now c.known_identity.ensures c.in-No.is
+pub returns-then-not-branch : goal.returns-then-not-branch
+unfolding refine_operand
+returns-then-not-branch c =
+    bind_on _ _ _ (through_on _ _ _ _ (known_identity _ _) _ c.in_ok-known_identity.ensures)
+    (no_on _ _ _ c.if-not-branch.true (pure_is _ _))
 
-pub returns-in-Yes : goal.returns-in-Yes
-returns-in-Yes c =
-    let a = c.args in
-    operand_known a.nodes.now a.constants.now a.count a.id a.restriction a.work a.max_work a.entries a.max_entries a.produced.now a.refinements.now c.known_identity.ensures c.in-Yes.is c.narrow_known.ensures
+pub returns : goal.returns
+unfolding refine_operand
+returns c =
+    bind_on _ _ _ (through_on _ _ _ _ (known_identity _ _) _ c.in_ok-known_identity.ensures)
+    (yes_on _ _ _ c.if-not-branch.false c.narrow_known.ensures)
