@@ -1,5 +1,5 @@
 -- What the code lends itself, as the definitions have it.
-use Rattle.std.specs.Prelude.{ℕ, ◌×◌, List}
+use Rattle.std.specs.Prelude.{ℕ, List}
 use Rattle.limits.specs.declared.Stop.{Stop}
 use Rattle.limits.specs.declared.Budget.{Budget}
 use Rattle.limits.specs.Metered.{Metered, zoom}
