@@ -243,12 +243,7 @@ pub fn without_rows(cells: &[u32], count: usize, budget: &mut Budget)
 }
 
 // Copies of the first `count` rows, in a budget.
-pub fn copy_in(
-    from: &[u32],
-    to: &mut [u32],
-    count: usize,
-    budget: &mut Budget,
-) -> Result<(), Stop>
+pub fn copy_in(from: &[u32], to: &mut [u32], count: usize, budget: &mut Budget) -> Result<(), Stop>
     ensures { answered result (budget.new, to.new) ≡ in_budget (copies from.now 0 count) (budget.old, to.old) }
 {
     let mut meter = budget.meter();

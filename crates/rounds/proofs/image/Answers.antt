@@ -1,13 +1,10 @@
 -- `rounds::image` meets its contract.
+use Rattle.limits.proofs.Answering.{exits}
 use Rattle.rounds.proofs.CodeLaws.{round_stopped, round_paid}
 use Rattle.rounds.proofs.image.Goals as goal
 
-pub returns-in-Stopped : goal.returns-in-Stopped
-returns-in-Stopped c =
-    let a = c.args in
-    round_stopped a.nodes.now a.constants.now a.rules.now a.count a.seeds.now a.positions a.previous.now a.budget a.context a.res.now c.charge.ensures c.in-Stopped.is
+pub returns-in_err-pay : goal.returns-in_err-pay
+returns-in_err-pay c = exits c.from_residual.result c.from_residual.ensures.1 (round_stopped _ _ _ c.in_err-pay.ensures)
 
-pub returns-in-Paid : goal.returns-in-Paid
-returns-in-Paid c =
-    let a = c.args in
-    round_paid a.nodes.now a.constants.now a.rules.now a.count a.seeds.now a.positions a.previous.now a.budget a.context a.res.now c.charge.ensures c.in-Paid.is c.produce.ensures
+pub returns : goal.returns
+returns c = round_paid _ _ _ c.in_ok-pay.ensures c.produce.ensures

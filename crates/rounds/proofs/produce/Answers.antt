@@ -1,18 +1,17 @@
 -- `rounds::produce` meets its contract.
+use mathlib.Core.Path.{sym}
+use Rattle.limits.proofs.Answering.{exits}
+use Rattle.rounds.specs.Round.{apply}
 use Rattle.rounds.proofs.CodeLaws.{copy_stopped, apply_stopped, apply_done}
 use Rattle.rounds.proofs.produce.Goals as goal
 
-pub returns-in-Stopped : goal.returns-in-Stopped
-returns-in-Stopped c =
-    let a = c.args in
-    copy_stopped a.nodes.now a.constants.now a.rules.now a.count a.seeds.now a.positions a.previous.now a.budget a.context a.res.now c.copy_in.ensures c.in-Stopped.is
+pub returns-in_err-copy_in : goal.returns-in_err-copy_in
+returns-in_err-copy_in c = exits c.from_residual.result c.from_residual.ensures.1 (copy_stopped _ _ _ _ _ _ c.copy_in.ensures c.in_err-copy_in.was)
 
-pub returns-in-Stopped-apply_rules : goal.returns-in-Stopped-apply_rules
-returns-in-Stopped-apply_rules c =
-    let a = c.args in
-    apply_stopped a.nodes.now a.constants.now a.rules.now a.count a.seeds.now a.positions a.previous.now a.budget a.context a.res.now c.copy_in.ensures c.in-Paid.is _ c.apply_rules.ensures c.in-Stopped-apply_rules.is c.without_rows.ensures
+pub returns-then-is_err : goal.returns-then-is_err
+unfolding apply
+returns-then-is_err c = apply_stopped _ _ _ _ _ _ c.copy_in.ensures c.in_ok-copy_in.was _ _ c.each_rule-joined.ensures (sym c.if-is_err.ensures.value) c.without_rows.ensures
 
-pub returns-in-Done : goal.returns-in-Done
-returns-in-Done c =
-    let a = c.args in
-    apply_done a.nodes.now a.constants.now a.rules.now a.count a.seeds.now a.positions a.previous.now a.budget a.context a.res.now c.copy_in.ensures c.in-Paid.is _ c.apply_rules.ensures c.in-Done.is
+pub returns-else-is_err : goal.returns-else-is_err
+unfolding apply
+returns-else-is_err c = apply_done _ _ _ _ _ _ c.copy_in.ensures c.in_ok-copy_in.was _ _ c.each_rule-joined.ensures (sym c.if-is_err.ensures.value)
