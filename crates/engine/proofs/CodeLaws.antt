@@ -8,34 +8,23 @@ use lib.IntN.{ℤ}
 use lib.ListN.{length}
 use Rattle.integers.specs.Order.{least32, greatest32}
 use Rattle.limits.specs.declared.Stop.{Stop}
-use Rattle.limits.specs.declared.Limits.{Limits}
 use Rattle.limits.specs.declared.Budget.{Budget}
-use Rattle.limits.specs.declared.Billed.{Billed}
-use Rattle.limits.specs.declared.Billed.TheVariants.{Paid}
-use Rattle.limits.specs.declared.Billed.TheVariants as billed
 use Rattle.limits.specs.Metered.{Run, going, stopped, Metered, answered, ◌>>◌, mapped, through, zoom}
 use Rattle.limits.specs.Meter.{meter_of, with_meter}
 use Rattle.limits.specs.Budget.{work, released}
 use Rattle.std.proofs.Common.{Result, Ok, Err}
-use Rattle.limits.proofs.Monad.{then_stop, then_on, through_on, through_stop, through_is, yes_on, no_on}
+use Rattle.limits.proofs.Answering.{went, broke}
+use Rattle.limits.proofs.Monad.{then_stop, then_on, through_on, through_stop, yes_on, no_on}
 use Rattle.thresholds.specs.Thresholds.{Entry, entry, enter}
 use Rattle.thresholds.proofs.Outcomes.{enter_grown}
 use Rattle.store.specs.Store.{Context}
 use Rattle.slots.specs.Slots.{Slots, slots, total, copies}
-use Rattle.evaluation.specs.Evaluation.{input}
 use Rattle.widening.specs.Widening.{no_growth}
-use Rattle.rounds.specs.declared.Ran.{Ran}
-use Rattle.rounds.specs.declared.Ran.TheVariants as runs
-use Rattle.rounds.specs.Round.{Given, given, standing}
-use Rattle.rounds.specs.Answers.{billed_with, in_budget, Bills}
-use Rattle.rounds.specs.Answers as rounds
-use Rattle.passes.specs.Pass.{ascent, ascend}
-use Rattle.passes.specs.Answers.{ascended}
-use Rattle.results.specs.Result.{close, ending, closing, last}
-use Rattle.results.specs.Answers.{ended}
+use Rattle.rounds.specs.Round.{Given, Standing, standing}
+use Rattle.rounds.specs.Lent.{in_budget}
+use Rattle.passes.specs.Pass.{Ascent, ascent, ascend}
+use Rattle.results.specs.Result.{close, Ending, ending, closing, last}
 use Rattle.engine.specs.Run.{enter_ends, Start, start, copying, charging, clearing, seeded, Beginning, beginning, in_entry, in_start, begin, Progress, progress, in_ascent, in_ending, ascend_and_end, finish}
-use Rattle.engine.specs.Answers.{progressed}
-use Rattle.engine.proofs.Kept.{ascend_limits}
 
 -- ---- both ends
 
@@ -52,34 +41,6 @@ module _ (s : Entry) where
   unfolding enter_ends
   ends_on h k = then_on (enter least32) s (enter greatest32) h k
 
--- ---- what m makes of a table in a budget, in a state that has both
-
-module _ {S : Type 0} (budget_of : S → Budget) (rows_of : S → List ℕ) (put : Budget → List ℕ → S → S) (m : Metered Stop Slots (Unit {0})) (s : S) where
-  abbrev zoomed : Metered Stop S (Unit {0})
-  zoomed = zoom (λ t. slots (meter_of (budget_of t)) (rows_of t)) (λ u t. put (with_meter u.meter (budget_of t)) u.rows t) m
-
-  abbrev placed : Run Stop (Budget × List ℕ) (Unit {0}) → Run Stop S (Unit {0})
-  placed (going tt t) = going tt (put t.0 t.1 s)
-  placed (stopped e t) = stopped e (put t.0 t.1 s)
-
-  placed_is : (y : Run Stop Slots (Unit {0})) →
-      placed (in_budget (budget_of s) y) ≡
-      mapped (λ u. put (with_meter u.meter (budget_of s)) u.rows s) (λ u. put (with_meter u.meter (budget_of s)) u.rows s) (λ e. e) y
-  unfolding mapped
-  placed_is (going tt u) = refl
-  placed_is (stopped e u) = refl
-
-  module _ {r : Billed} {rows : List ℕ} (h : Bills m (budget_of s) (rows_of s) r rows) where
-    bills_in : placed (billed_with r rows) ≡ zoomed s
-    unfolding through
-    bills_in = ap placed h.is ∙ placed_is (m (slots (meter_of (budget_of s)) (rows_of s)))
-
-    pub bills_stopped : {stop : Stop} {kept : Budget} → r ≡ billed.Stopped stop kept → stopped stop (put kept rows s) ≡ zoomed s
-    bills_stopped q = sym (ap (λ (y : Billed). placed (billed_with y rows)) q) ∙ bills_in
-
-    pub bills_paid : {left : Budget} → r ≡ Paid left → going tt (put left rows s) ≡ zoomed s
-    bills_paid q = sym (ap (λ (y : Billed). placed (billed_with y rows)) q) ∙ bills_in
-
 -- ---- what a computation gives on a part of the state
 
 answered_through : {S T A : Type 0} (get : S → T) (put : T → S → S) (m : Metered Stop T A) (s : S) (r : Result A Stop) (t : T) → answered r t ≡ m (get s) → answered r (put t s) ≡ zoom get put m s
@@ -92,22 +53,35 @@ answered_through {S} {T} {A} get put m s r t h = rw (← h) (go r)
 
 -- ---- the seeds
 
-module _ (seeds : List ℕ) (n : ℕ) (b : Budget) (current growth : List ℕ) {r : Billed} {copied : List ℕ} (h : Bills (copies seeds 0 n) b current r copied) where
-  pub copies_stopped : {stop : Stop} {kept : Budget} → r ≡ billed.Stopped stop kept → stopped stop (start kept copied growth) ≡ seeded seeds n (start b current growth)
-  unfolding seeded
-  copies_stopped q =
-      then_stop (copying seeds n) (start b current growth) (charging n >> clearing n)
-      (bills_stopped (λ s. s.budget) (λ s. s.current) (λ c v s. start c v s.growth) (copies seeds 0 n) (start b current growth) h q)
+abbrev placed : List ℕ → Run Stop (Budget × List ℕ) (Unit {0}) → Run Stop Start (Unit {0})
+placed growth x = mapped (λ t. start t.0 t.1 growth) (λ t. start t.0 t.1 growth) (λ e. e) x
 
-  module _ {left : Budget} (q : r ≡ Paid left) where
+module _ (seeds : List ℕ) (n : ℕ) (b : Budget) (current growth : List ℕ) (r : Result (Unit {0}) Stop) (left : Budget) (copied : List ℕ)
+    (h : answered r (left, copied) ≡ in_budget (copies seeds 0 n) (b, current)) where
+  seeds_copied : answered r (start left copied growth) ≡ copying seeds n (start b current growth)
+  unfolding through mapped
+  seeds_copied = answer r ∙ ap (placed growth) h ∙ state (copies seeds 0 n (slots (meter_of b) current))
+    where
+      answer : (r : Result (Unit {0}) Stop) → answered r (start left copied growth) ≡ placed growth (answered r (left, copied))
+      answer (Ok u) = refl
+      answer (Err e) = refl
+
+      state : (y : Run Stop Slots (Unit {0})) → placed growth (mapped (λ t. (with_meter t.meter b, t.rows)) (λ t. (with_meter t.meter b, t.rows)) (λ e. e) y) ≡
+          mapped (λ t. start (with_meter t.meter b) t.rows growth) (λ t. start (with_meter t.meter b) t.rows growth) (λ e. e) y
+      state (going u t) = refl
+      state (stopped e t) = refl
+
+  pub copies_stopped : {e : Stop} → r ≡ Err e → stopped e (start left copied growth) ≡ seeded seeds n (start b current growth)
+  unfolding seeded
+  copies_stopped q = then_stop (copying seeds n) (start b current growth) (charging n >> clearing n) (broke seeds_copied q)
+
+  module _ (q : r ≡ Ok tt) where
     copies_on : {y : Run Stop Start (Unit {0})} → y ≡ (charging n >> clearing n) (start left copied growth) → y ≡ seeded seeds n (start b current growth)
     unfolding seeded
-    copies_on k =
-        then_on (copying seeds n) (start b current growth) (charging n >> clearing n)
-        (bills_paid (λ s. s.budget) (λ s. s.current) (λ c v s. start c v s.growth) (copies seeds 0 n) (start b current growth) h q) k
+    copies_on k = then_on (copying seeds n) (start b current growth) (charging n >> clearing n) (went seeds_copied q) k
 
-    pub growth_stopped : {stop : Stop} {kept dropped : Budget} → stopped stop kept ≡ work n left → dropped ≡ released (total copied n) kept →
-        stopped stop (start dropped copied growth) ≡ seeded seeds n (start b current growth)
+    pub growth_stopped : {e : Stop} {kept dropped : Budget} → stopped e kept ≡ work n left → dropped ≡ released (total copied n) kept →
+        stopped e (start dropped copied growth) ≡ seeded seeds n (start b current growth)
     growth_stopped k d =
         rw d
         (copies_on
@@ -138,62 +112,30 @@ module _ (seeds : List ℕ) (n : ℕ) (e : Entry) (current growth : List ℕ) {t
 
 -- ---- the ascent and the end
 
--- what the end of a run leaves, beside the growth that the ascent left
-progressed_is : (y : Ran) (current growth bounds : List ℕ) →
-    progressed y current growth bounds ≡
-    mapped (λ t. progress t.budget t.context t.current growth t.bounds) (λ t. progress t.budget t.context t.current growth t.bounds) (λ e. e)
-    (ended y current bounds)
-unfolding mapped
-progressed_is (runs.Done b c) current growth bounds = refl
-progressed_is (runs.Stopped e b c) current growth bounds = refl
+module _ (g : Given) (thresholds : List ℤ) (b : Budget) (c : Context) (current growth bounds : List ℕ) where
+  abbrev here : Progress
+  here = progress b c current growth bounds
 
--- and what its closing charges leave, beside the current values
-ended_is : (y : Ran) (current bounds : List ℕ) →
-    ended y current bounds ≡
-    mapped (λ t. ending t.budget t.context current t.rows) (λ t. ending t.budget t.context current t.rows) (λ e. e) (rounds.ran y bounds)
-unfolding mapped
-ended_is (runs.Done b c) current bounds = refl
-ended_is (runs.Stopped e b c) current bounds = refl
+  module _ {x : Result (Unit {0}) Stop} (t : Ascent) (h : answered x t ≡ ascend g thresholds (ascent b c current growth)) where
+    pub ascent_stopped : {e : Stop} → x ≡ Err e → stopped e (progress t.budget t.context t.current t.growth bounds) ≡ ascend_and_end g thresholds here
+    unfolding ascend_and_end
+    ascent_stopped q = then_stop (in_ascent (ascend g thresholds)) here (in_ending (last g)) (through_stop _ _ _ _ (ascend g thresholds) here (broke h q))
 
-module _ (nodes constants rules : List ℕ) (count : ℕ) (seeds : List ℕ) (positions : ℕ) (thresholds : List ℤ) where
-  -- under the width of a budget, whose limits no charge changes
-  abbrev under : Limits → Given
-  under l = given (input nodes constants l.width) rules count seeds positions
+    pub ascent_done : x ≡ Ok tt → (y : Result (Unit {0}) Stop) (s : Ending) → answered y s ≡ last g (ending t.budget t.context t.current bounds) →
+        answered y (progress s.budget s.context s.current t.growth s.bounds) ≡ ascend_and_end g thresholds here
+    unfolding ascend_and_end
+    ascent_done q y s k =
+        then_on (in_ascent (ascend g thresholds)) here (in_ending (last g)) (through_on _ _ _ _ (ascend g thresholds) here (went h q))
+        (answered_through (λ s. ending s.budget s.context s.current s.bounds) (λ t s. progress t.budget t.context t.current s.growth t.bounds) (last g) (progress t.budget t.context t.current t.growth bounds) y s k)
 
-  module _ (b : Budget) (c : Context) (current growth bounds : List ℕ) where
-    abbrev here : Progress
-    here = progress b c current growth bounds
+  pub finish_none : (y : Result (Unit {0}) Stop) (s : Standing) → g.count ≡ 0 → answered y s ≡ close g.input g.rules g.count g.positions current (standing b c bounds) →
+      answered y (progress s.budget s.context current growth s.rows) ≡ finish g thresholds here
+  unfolding finish closing
+  finish_none y s e h =
+      yes_on (in_ending (closing g)) (ascend_and_end g thresholds) here (eq-eqb g.count 0 e)
+      (answered_through (λ s. ending s.budget s.context s.current s.bounds) (λ t s. progress t.budget t.context t.current s.growth t.bounds) (closing g) here y (ending s.budget s.context current s.rows)
+      (answered_through (λ s. standing s.budget s.context s.bounds) (λ t s. ending t.budget t.context s.current t.rows) (close g.input g.rules g.count g.positions current) (ending b c current bounds) y s h))
 
-    module _ {x : Ran} (current₁ growth₁ : List ℕ) (h : ascended x current₁ growth₁ ≡ ascend (under b.limits) thresholds (ascent b c current growth)) where
-      pub ascent_stopped : {stop : Stop} {kept : Budget} {force : Context} → x ≡ runs.Stopped stop kept force →
-          progressed (runs.Stopped stop kept force) current₁ growth₁ bounds ≡ ascend_and_end (under b.limits) thresholds here
-      unfolding ascend_and_end
-      ascent_stopped q =
-          then_stop (in_ascent (ascend (under b.limits) thresholds)) here (in_ending (last (under b.limits)))
-          (through_stop _ _ _ _ (ascend (under b.limits) thresholds) here (sym (ap (λ (y : Ran). ascended y current₁ growth₁) q) ∙ h))
-
-      pub ascent_done : {left : Budget} {force : Context} → x ≡ runs.Done left force → (y : Ran) (current₂ bounds₂ : List ℕ) →
-          ended y current₂ bounds₂ ≡ last (under left.limits) (ending left force current₁ bounds) →
-          progressed y current₂ growth₁ bounds₂ ≡ ascend_and_end (under b.limits) thresholds here
-      unfolding ascend_and_end
-      ascent_done {left} {force} q y current₂ bounds₂ k =
-          then_on (in_ascent (ascend (under b.limits) thresholds)) here (in_ending (last (under b.limits)))
-          (through_on _ _ _ _ (ascend (under b.limits) thresholds) here (sym (ap (λ (z : Ran). ascended z current₁ growth₁) q) ∙ h))
-          (progressed_is y current₂ growth₁ bounds₂
-          ∙ through_is _ _ _ _ (last (under b.limits)) (progress left force current₁ growth₁ bounds)
-          (k
-          ∙ ap (λ (l : Limits). last (under l) (ending left force current₁ bounds))
-          (ascend_limits (under b.limits) thresholds (ascent b c current growth) (sym (ap (λ (z : Ran). ascended z current₁ growth₁) q) ∙ h))))
-
-    pub finish_none : (y : Ran) (bounds' : List ℕ) → count ≡ 0 → rounds.ran y bounds' ≡ close (input nodes constants b.limits.width) rules count positions current (standing b c bounds) →
-        progressed y current growth bounds' ≡ finish (under b.limits) thresholds here
-    unfolding finish closing
-    finish_none y bounds' e h =
-        yes_on (in_ending (closing (under b.limits))) (ascend_and_end (under b.limits) thresholds) here (eq-eqb count 0 e)
-        (progressed_is y current growth bounds'
-        ∙ through_is _ _ _ _ (closing (under b.limits)) here
-        (ended_is y current bounds' ∙ through_is _ _ _ _ (close (input nodes constants b.limits.width) rules count positions current) (ending b c current bounds) h))
-
-    pub finish_some : {y : Run Stop Progress (Unit {0})} → (count ≡ 0 → ⊥) → y ≡ ascend_and_end (under b.limits) thresholds here → y ≡ finish (under b.limits) thresholds here
-    unfolding finish
-    finish_some e h = no_on (in_ending (closing (under b.limits))) (ascend_and_end (under b.limits) thresholds) here (ne_eqb count 0 e) h
+  pub finish_some : {y : Run Stop Progress (Unit {0})} → (g.count ≡ 0 → ⊥) → y ≡ ascend_and_end g thresholds here → y ≡ finish g thresholds here
+  unfolding finish
+  finish_some e h = no_on (in_ending (closing g)) (ascend_and_end g thresholds) here (ne_eqb g.count 0 e) h

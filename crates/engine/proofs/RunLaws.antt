@@ -12,30 +12,26 @@ use lib.Seq.{sets, length-take-le}
 use Rattle.integers.proofs.Stores.{Writing, writing_more, writing_all}
 use Rattle.integers.proofs.Tests.{and_left, and_right}
 use Rattle.limits.specs.declared.Stop.{Stop}
-use Rattle.limits.specs.declared.Limits.{Limits}
 use Rattle.limits.specs.declared.Budget.{Budget}
 use Rattle.limits.specs.declared.Refusal.TheVariants.{Closed, Shape, Full}
 use Rattle.limits.specs.Refusal.{told}
-use Rattle.limits.specs.Metered.{going, stopped}
+use Rattle.limits.specs.Metered.{Run, going, stopped, answered}
 use Rattle.limits.specs.Budget.{released}
 use Rattle.thresholds.specs.Thresholds.{entry}
 use Rattle.rows.specs.Row.{row, padded}
 use Rattle.rows.proofs.RowLaws.{length_padded, get_or_padded}
 use Rattle.store.specs.Store.{Context}
+use Rattle.std.proofs.Common.{Result, Ok, Err}
 use Rattle.store.specs.declared.Phase.TheVariants.{Completed, Stopped}
 use Rattle.store.specs.declared.Counts.{Counts}
 use Rattle.store.specs.declared.Store.{Store}
 use Rattle.store.specs.Store.{admits}
 use Rattle.rules.specs.Rule as rule
 use Rattle.slots.specs.Slots.{total}
-use Rattle.evaluation.specs.Evaluation.{input}
-use Rattle.rounds.specs.declared.Ran.{Ran}
-use Rattle.rounds.specs.declared.Ran.TheVariants as runs
-use Rattle.rounds.specs.Round.{given, blank, moved}
-use Rattle.engine.specs.Run.{Beginning, beginning, begin, progress, finish}
-use Rattle.engine.specs.Call.{Read, Tables, tables, sizes, result_sizes, spacious, ended_in, concluded, finished, ran_on, run_call}
-use Rattle.engine.specs.Answers.{progressed, Concludes}
-use Rattle.engine.proofs.Kept.{begin_limits, begin_grown}
+use Rattle.rounds.specs.Round.{blank, moved}
+use Rattle.engine.specs.Run.{Beginning, beginning, begin, Progress, progress, finish}
+use Rattle.engine.specs.Call.{Read, Tables, tables, sizes, result_sizes, spacious, given_of, ended_in, concluded, finished, ran_on, run_call}
+use Rattle.engine.proofs.Kept.{begin_grown}
 
 -- ---- the first cells of a table in another
 
@@ -49,18 +45,6 @@ module _ (from : List ℕ) {count i : ℕ} where
   pub cells_moved : {r to : List ℕ} → Writing r to 0 (padded count from) i → count ≤ i → to ≡ r
   cells_moved h l = let n : length (padded count from) ≡ count = length_padded count from in writing_all h (omega arith)
 
--- ---- a run that has ended
-
-module _ (s : Store) (n : ℕ) (seeds current bounds arguments slots : List ℕ) {x : Ran} {left : Budget} {result : Store} where
-  pub concludes_stopped : {stop : Stop} {kept : Budget} {force : Context} → x ≡ runs.Stopped stop kept force → left ≡ released (total current s.counts.positions) kept →
-      result ≡ ended_in (Stopped stop force) left n s → Concludes s x n seeds current bounds arguments slots result arguments slots
-  concludes_stopped q p e = record { at = λ marks before growth. rw (q, e, p) }
-
-  pub concludes_done : {kept : Budget} {force : Context} {arguments' slots' : List ℕ} → x ≡ runs.Done kept force → arguments' ≡ moved current s.counts.positions arguments →
-      slots' ≡ sets slots 0 (padded (128 * s.counts.rules) bounds) → left ≡ released (total seeds s.counts.positions) kept → result ≡ ended_in Completed left n s →
-      Concludes s x n seeds current bounds arguments slots result arguments' slots'
-  concludes_done q a d p e = record { at = λ marks before growth. rw (q, a, d, e, p) }
-
 -- ---- the run of a store that admits it
 
 module _ (r : Read) (s : Store) (before : List ℤ) (arguments slots : List ℕ) (b : Budget) (n : ℕ) (marks : List ℤ) (current growth : List ℕ) where
@@ -70,7 +54,7 @@ module _ (r : Read) (s : Store) (before : List ℤ) (arguments slots : List ℕ)
   abbrev to : Beginning
   to = beginning (entry b n marks) current growth
 
-  pub open_stopped : {stop : Stop} {result : Store} → stopped stop to ≡ begin r.seeds s.counts.positions from → result ≡ ended_in (Stopped stop s.context) b n s →
+  pub open_stopped : {e : Stop} {result : Store} → stopped e to ≡ begin r.seeds s.counts.positions from → result ≡ ended_in (Stopped e s.context) b n s →
       tables result marks arguments slots ≡ ran_on r (tables s before arguments slots)
   unfolding ran_on
   open_stopped h e = rw e (ap (finished r (tables s before arguments slots)) h)
@@ -83,21 +67,10 @@ module _ (r : Read) (s : Store) (before : List ℤ) (arguments slots : List ℕ)
     pub open_taken : s.counts.thresholds + 2 ≤ length before → length marks ≡ length before → n ≡ length (take n marks)
     open_taken a l = sym (length-take-le n marks (open_marks a l))
 
-    pub open_run : {y : Ran} (current' growth' bounds' : List ℕ) {result : Store} {arguments' slots' : List ℕ} →
-        progressed y current' growth' bounds' ≡
-        finish (given (input r.nodes r.constants b.limits.width) r.rules s.counts.rules r.seeds s.counts.positions) (take n marks)
-        (progress b s.context current growth (replicate 32768 0)) →
-        Concludes s y n r.seeds current' bounds' arguments slots result arguments' slots' →
-        tables result marks arguments' slots' ≡ ran_on r (tables s before arguments slots)
+    pub open_run : {y : Run Stop Progress (Unit {0})} {t : Tables} → y ≡ finish (given_of r s) (take n marks) (progress b s.context current growth (replicate 32768 0)) →
+        t ≡ concluded r.seeds n marks (tables s before arguments slots) y → t ≡ ran_on r (tables s before arguments slots)
     unfolding ran_on
-    open_run {y} current' growth' bounds' f c =
-        c.at marks before growth'
-        ∙ ap (concluded r.seeds n marks (tables s before arguments slots))
-        (f
-        ∙ ap (λ (l : Limits). finish (given (input r.nodes r.constants l.width) r.rules s.counts.rules r.seeds s.counts.positions) (take n marks)
-        (progress b s.context current growth (replicate 32768 0)))
-        (begin_limits r.seeds s.counts.positions from begins))
-        ∙ ap (finished r (tables s before arguments slots)) begins
+    open_run f c = c ∙ ap (concluded r.seeds n marks (tables s before arguments slots)) f ∙ ap (finished r (tables s before arguments slots)) begins
 
 -- ---- sizes and room
 

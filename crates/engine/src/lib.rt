@@ -40,10 +40,9 @@ fn seed(
     ensures { answered result (start budget.new current.new growth.new) ≡ seeded seeds.now positions (start budget.old current.old growth.old) }
 {
     rounds::copy_in(seeds, current, positions, budget)?;
-    let charged = budget.pay(Resource::Work, positions as u64);
-    if charged.is_err() {
+    if let Err(stop) = budget.pay(Resource::Work, positions as u64) {
         rounds::without_rows(current, positions, budget);
-        return charged;
+        return Err(stop);
     }
     widening::clear_growth(growth, positions);
     Ok(())

@@ -1,100 +1,82 @@
 -- What the code answers of one argument is what the definitions say, over plain variables.
-use Prim.Native.Nat.{ℕ, ◌-◌}
-use mathlib.Core.Path.{◌≡◌, sym, ap, ◌∙◌}
-use mathlib.Core.Bool.{Bool, true, false}
+use Prim.Native.Nat.{ℕ, suc, ◌+◌, ◌-◌, ◌≤◌, ◌<◌}
+use native.Mathlib.Omega.{arith}
+use mathlib.Core.Path.{◌≡◌, ap, ◌∙◌}
+use mathlib.Core.Bool.{Bool, true, false, not, ◌||◌}
 use mathlib.Core.List.{List}
 use lib.IntN.{ℤ}
-use Rattle.limits.specs.declared.Resource.TheVariants.{Work}
+use Rattle.std.proofs.Common.{Result, Ok, Err}
 use Rattle.limits.specs.declared.Stop.{Stop}
 use Rattle.limits.specs.declared.Budget.{Budget}
-use Rattle.limits.specs.declared.Charged.{Charged}
-use Rattle.limits.specs.declared.Charged.TheVariants.{Paid}
-use Rattle.limits.specs.declared.Charged.TheVariants as charged
-use Rattle.limits.specs.Charge.{charge_of}
-use Rattle.limits.specs.Meter.{meter, meter_of, with_meter}
-use Rattle.limits.specs.Budget.{widened_once}
-use Rattle.limits.proofs.Monad.{bind_stop, bind_on, then_stop, then_on, pure_is}
-use Rattle.limits.proofs.CodeLaws.{work_paid, work_stopped, hold_on, hold_stop}
-use Rattle.interval.specs.declared.Interval.{Interval}
-use Rattle.lists.specs.declared.bridge.Verdict.{Verdict}
-use Rattle.lists.specs.declared.bridge.Verdict.TheVariants.{Yes, No}
-use Rattle.lists.specs.declared.bridge.Verdict.TheVariants as verdict
-use Rattle.lists.specs.Answers.{Answers}
-use Rattle.lattice.specs.declared.Abstract.{Abstract}
-use Rattle.lattice.specs.declared.bridge.Outcome.TheVariants.{Done, Stopped}
-use Rattle.lattice.specs.declared.bridge.Made.{Made}
+use Rattle.limits.specs.declared.Meter.{Meter}
+use Rattle.limits.specs.Metered.{Run, going, stopped, Metered, answered, pure, ◌>>=◌}
+use Rattle.limits.specs.Meter.{work, holding, held_through, meter_of, with_meter}
+use Rattle.limits.specs.Budget.{released, widened_once}
+use Rattle.limits.proofs.Monad.{bind_stop, bind_on, then_stop, then_on, pure_is, through_on, through_stop}
+use Rattle.limits.proofs.Onward.{Onward, onward_begins, onward_ends, bind_stops, bind_goes}
+use Rattle.limits.proofs.Answering.{went, broke, held_is}
+use Rattle.lists.specs.Ids.{seen}
 use Rattle.lattice.specs.Value.{Value, value_of}
 use Rattle.lattice.specs.Lattice.{same, join}
-use Rattle.lattice.specs.Answers.{made}
-use Rattle.lattice.proofs.Limits.{said_yes, said_no, said_stop}
 use Rattle.rows.specs.Row.{entries_of, value_at, put}
+use Rattle.slots.specs.Slots.{total}
 use Rattle.seeds.specs.Seed.{loses}
 use Rattle.widening.specs.declared.Growth.{Growth}
-use Rattle.widening.specs.declared.bridge.Widened.{Widened}
-use Rattle.widening.specs.declared.bridge.Widened.TheVariants.{Into}
-use Rattle.widening.specs.declared.bridge.Widened.TheVariants as widened
+use Rattle.widening.specs.declared.Wide.{Wide}
 use Rattle.widening.specs.Widening.{widen, growth_at, put_growth}
-use Rattle.widening.specs.Answers.{Widens, widened_into}
-use Rattle.passes.specs.declared.Grew.{Grew}
-use Rattle.passes.specs.declared.Advanced.TheVariants as advanced
-use Rattle.passes.specs.Step.{within, compared, widen_value, grow, steps, counting, step}
-use Rattle.passes.specs.Answers.{grew, StopsAt, Compares, advanced_to}
+use Rattle.passes.specs.declared.Grown as code
+use Rattle.passes.specs.Step.{Grown, grown, within, compared, widen_value, grow, Steps, steps, counting, step, holding_next, advance}
+use Rattle.passes.specs.Lent.{grown_in}
 
--- ---- a new value compared with the old one
+-- ---- a new value compared with the old one, in hand while that is done
 
-module _ (old v : Abstract) (g : Growth) {w mw : ℕ} (e : ℕ) {x : Verdict} (h : Answers (same (value_of old) (value_of v)) w mw x) where
-  pub compare_stopped : {stop : Stop} {n held live : ℕ} {r : Grew} → x ≡ verdict.Stopped stop n → held ≡ entries_of (value_of v) → live ≡ e - held → StopsAt stop n live r →
-      Compares (compared (value_of old) (value_of v) g) w mw e r
+module _ {A : Type 0} (v : Value) (c : Metered Stop Meter A) (m : Meter) {n : ℕ} (p : n ≡ entries_of v) (x : Result A Stop) (t : Meter) (h : answered x t ≡ c m)
+    (r : Result A Stop) (u : Meter) (k : answered r u ≡ held_through n x t) where
+  pub held : answered r u ≡ holding (entries_of v) c m
+  held = rw (← p) (k ∙ held_is n c m x t h)
+
+module _ (old v : Value) (g : Growth) (m : Meter) {r : Result Bool Stop} {u : Meter} (h : answered r u ≡ holding (entries_of v) (same old v) m) where
+  pub compare_stopped : {e : Stop} → r ≡ Err e → stopped e u ≡ compared old v g m
   unfolding compared
-  compare_stopped p q l k =
-      record { at = λ me. k.at mw me ∙ rw (l, q) (bind_stop _ _ _ (hold_stop (entries_of (value_of v)) (same (value_of old) (value_of v)) (meter w mw e me) (said_stop h e me p))) }
+  compare_stopped q = bind_stop (holding (entries_of v) (same old v)) m (λ s. pure (grown v g (not s))) (broke h q)
 
-  pub compare_yes : {n : ℕ} → x ≡ Yes n → Compares (compared (value_of old) (value_of v) g) w mw e record { outcome = Done; value = v; growth = g; changed = false; work = n; entries = e }
+  pub compare_on : {s : Bool} → r ≡ Ok s → going (grown v g (not s)) u ≡ compared old v g m
   unfolding compared
-  compare_yes p = record { at = λ me. bind_on _ _ _ (hold_on (entries_of (value_of v)) (same (value_of old) (value_of v)) (meter w mw e me) (said_yes h e me p)) (pure_is _ _) }
-
-  pub compare_no : {n : ℕ} → x ≡ No n → Compares (compared (value_of old) (value_of v) g) w mw e record { outcome = Done; value = v; growth = g; changed = true; work = n; entries = e }
-  unfolding compared
-  compare_no p = record { at = λ me. bind_on _ _ _ (hold_on (entries_of (value_of v)) (same (value_of old) (value_of v)) (meter w mw e me) (said_no h e me p)) (pure_is _ _) }
+  compare_on q = bind_on (holding (entries_of v) (same old v)) m (λ s. pure (grown v g (not s))) (went h q) (pure_is _ _)
 
 -- ---- a joined value widened
 
-module _ (thresholds : List ℤ) (old v : Value) (g : Growth) {w mw : ℕ} (e : ℕ) {x : Widened} (h : Widens (widen thresholds old.bound.interval v.bound.interval g) w mw x) where
-  pub widen_stopped : {stop : Stop} {n held live : ℕ} {r : Grew} → x ≡ widened.Stopped stop n → held ≡ entries_of v → live ≡ e - held → StopsAt stop n live r →
-      Compares (widen_value thresholds old v g) w mw e r
-  unfolding widen_value
-  widen_stopped p q l k =
-      record {
-        at = λ me. k.at mw me ∙ rw (l, q)
-            (bind_stop _ _ _ (hold_stop (entries_of v) (widen thresholds old.bound.interval v.bound.interval g) (meter w mw e me)
-            (sym (ap (λ (y : Widened). widened_into y mw e me) p) ∙ h.at e me)));
-      }
+abbrev onward : Value → Value → Wide → Metered Stop Meter Grown
+onward old v w = compared old (within w.interval v) w.growth
 
-  pub widen_into : {i : Interval} {g' : Growth} {n : ℕ} {u : Value} {r : Grew} → x ≡ Into i g' n → u ≡ within i v → Compares (compared old u g') n mw e r →
-      Compares (widen_value thresholds old v g) w mw e r
+module _ (thresholds : List ℤ) (old v : Value) (g : Growth) (m : Meter) {r : Result Wide Stop} (u : Meter)
+    (h : answered r u ≡ holding (entries_of v) (widen thresholds old.bound.interval v.bound.interval g) m) where
+  pub widen_stopped : {e : Stop} → r ≡ Err e → stopped e u ≡ widen_value thresholds old v g m
   unfolding widen_value
-  widen_into p q k =
-      record {
-        at = λ me. bind_on _ _ _ (hold_on (entries_of v) (widen thresholds old.bound.interval v.bound.interval g) (meter w mw e me)
-            (sym (ap (λ (y : Widened). widened_into y mw e me) p) ∙ h.at e me)) (rw (← q) (k.at me));
-      }
+  widen_stopped q = bind_stop (holding (entries_of v) (widen thresholds old.bound.interval v.bound.interval g)) m (onward old v) (broke h q)
+
+  pub widen_on : {w : Wide} {new : Value} {y : Run Stop Meter Grown} → r ≡ Ok w → new ≡ within w.interval v → y ≡ compared old new w.growth u → y ≡ widen_value thresholds old v g m
+  unfolding widen_value
+  widen_on q p k = bind_on (holding (entries_of v) (widen thresholds old.bound.interval v.bound.interval g)) m (onward old v) (went h q) (rw (← p) k)
 
 -- ---- one argument
 
-module _ (width : ℕ) (thresholds : List ℤ) (old candidate : Value) (g : Growth) (w mw e me : ℕ) {x : Charged} (h : x ≡ charge_of Work w 1 mw) where
-  pub grow_unpaid : {stop : Stop} {n : ℕ} {r : Grew} → x ≡ charged.Stopped stop n → StopsAt stop n e r → grew r mw me ≡ grow width thresholds old candidate g (meter w mw e me)
+module _ (width : ℕ) (thresholds : List ℤ) (old candidate : Value) (g : Growth) (m : Meter) where
+  abbrev joining : Metered Stop Meter Grown
+  joining = join width old candidate >>= (λ v. widen_value thresholds old v g)
+
+  pub grow_unpaid : {e : Stop} {t : Meter} → stopped e t ≡ work 1 m → stopped e t ≡ grow width thresholds old candidate g m
   unfolding grow
-  grow_unpaid p k = k.at mw me ∙ then_stop _ _ _ (work_stopped w mw e me 1 h p)
+  grow_unpaid h = then_stop (work 1) m joining h
 
-  module _ {n : ℕ} (p : x ≡ Paid n) (m : Made) (j : made m mw me ≡ join width old candidate (meter n mw e me)) where
-    pub grow_unjoined : {stop : Stop} {r : Grew} → m.outcome ≡ Stopped stop → StopsAt stop m.work m.entries r → grew r mw me ≡ grow width thresholds old candidate g (meter w mw e me)
+  module _ {t : Meter} (h : going tt t ≡ work 1 m) where
+    pub grow_unjoined : {e : Stop} {u : Meter} → stopped e u ≡ join width old candidate t → stopped e u ≡ grow width thresholds old candidate g m
     unfolding grow
-    grow_unjoined o k = k.at mw me ∙ then_on _ _ _ (work_paid w mw e me 1 h p) (bind_stop (join width old candidate) _ _ (rw o at j))
+    grow_unjoined k = then_on (work 1) m joining h (bind_stop (join width old candidate) t (λ v. widen_value thresholds old v g) k)
 
-    pub grow_on : {r : Grew} → m.outcome ≡ Done → Compares (widen_value thresholds old (value_of m.value) g) m.work mw m.entries r →
-        grew r mw me ≡ grow width thresholds old candidate g (meter w mw e me)
+    pub grow_on : {v : Value} {u : Meter} {y : Run Stop Meter Grown} → going v u ≡ join width old candidate t → y ≡ widen_value thresholds old v g u → y ≡ grow width thresholds old candidate g m
     unfolding grow
-    grow_on o k = then_on _ _ _ (work_paid w mw e me 1 h p) (bind_on (join width old candidate) _ _ (rw o at j) (k.at me))
+    grow_on k l = then_on (work 1) m joining h (bind_on (join width old candidate) t (λ v. widen_value thresholds old v g) k l)
 
 -- ---- a lost list
 
@@ -107,16 +89,47 @@ module _ (b : Budget) {t l : Bool} (h : t ≡ l) where
 
 -- ---- in tables
 
-module _ (thresholds : List ℤ) (current candidates : List ℕ) (k : ℕ) (b : Budget) (next growth : List ℕ) {old candidate : Value} {g : Growth}
-    (a : old ≡ value_at current k) (c : candidate ≡ value_at candidates k) (d : g ≡ growth_at growth k)
-    (r : Grew) (h : grew r b.limits.work b.limits.entries ≡ grow b.limits.width thresholds old candidate g (meter_of b)) {left : Budget}
-    (l : left ≡ with_meter (meter r.work b.limits.work r.entries b.limits.entries) b) where
-  pub step_stopped : {stop : Stop} → r.outcome ≡ Stopped stop → advanced_to (advanced.Stopped stop left) next growth ≡ step thresholds current candidates k (steps b next growth)
+module _ (thresholds : List ℤ) (current candidates : List ℕ) (k : ℕ) (b : Budget) (next growth : List ℕ) {old candidate : Value} {g : Growth} {start : Meter}
+    (a : old ≡ value_at current k) (c : candidate ≡ value_at candidates k) (d : g ≡ growth_at growth k) (f : start ≡ meter_of b)
+    {r : Result code.Grown Stop} (t : Meter) (h : seen grown_in r t ≡ grow b.limits.width thresholds old candidate g start) {left : Budget} (l : left ≡ with_meter t b) where
+  pub step_stopped : {e : Stop} → r ≡ Err e → stopped e (steps left next growth) ≡ step thresholds current candidates k (steps b next growth)
   unfolding step
-  step_stopped o = rw (l, ← a, ← c, ← d, ← h, o)
+  step_stopped q = rw (l, ← a, ← c, ← d, ← f, ← h, q)
 
-  pub step_done : {left' : Budget} {next' growth' : List ℕ} → r.outcome ≡ Done → next' ≡ put next k (value_of r.value) → growth' ≡ put_growth growth k r.growth →
-      left' ≡ counting (loses old.values (value_of r.value).values) left →
-      advanced_to (advanced.Done r.changed left') next' growth' ≡ step thresholds current candidates k (steps b next growth)
+  pub step_done : {x : code.Grown} {left' : Budget} {next' growth' : List ℕ} → r ≡ Ok x → next' ≡ put next k (value_of x.value) → growth' ≡ put_growth growth k x.growth →
+      left' ≡ counting (loses old.values (value_of x.value).values) left →
+      going x.changed (steps left' next' growth') ≡ step thresholds current candidates k (steps b next growth)
   unfolding step
-  step_done o p q s = rw (s, l, p, q, ← a, ← c, ← d, ← h, o)
+  step_done q p s w = rw (w, l, p, s, ← a, ← c, ← d, ← f, ← h, q)
+
+-- ---- the arguments of a pass
+
+module _ (thresholds : List ℤ) (current candidates : List ℕ) (count : ℕ) (s₀ : Steps) where
+  abbrev one : ℕ → Metered Stop Steps Bool
+  one k = holding_next k (step thresholds current candidates k)
+
+  abbrev others : ℕ → Bool → Bool → Metered Stop Steps Bool
+  others k changed moved = advance thresholds current candidates (k + 1) (count - (k + 1)) (changed || moved)
+
+  abbrev pub Advancing : ℕ → Bool → Steps → Type 0
+  Advancing k changed s = Onward (advance thresholds current candidates 0 count false) s₀ (advance thresholds current candidates k (count - k) changed) s
+
+  pub advancing : Advancing 0 false s₀
+  advancing = let e : count ≡ count - 0 = omega arith in onward_begins s₀ (ap (λ (n : ℕ). advance thresholds current candidates 0 n false) e)
+
+  module _ {k : ℕ} (changed : Bool) {b : Budget} {next growth : List ℕ} (h : Advancing k changed (steps b next growth)) where
+    pub advanced : count ≤ k → going changed (steps b next growth) ≡ advance thresholds current candidates 0 count false s₀
+    unfolding advance
+    advanced l = let e : count - k ≡ 0 = omega arith in onward_ends h (ap (λ (n : ℕ). advance thresholds current candidates k n changed) e)
+
+    module _ (l : k < count) where
+      next_of : advance thresholds current candidates k (count - k) changed ≡ (one k >>= others k changed)
+      unfolding advance
+      next_of = let e : count - k ≡ suc (count - (k + 1)) = omega arith in ap (λ (n : ℕ). advance thresholds current candidates k n changed) e
+
+      pub advance_stopped : {e : Stop} {kept left : Budget} {next' growth' : List ℕ} → stopped e (steps kept next' growth') ≡ step thresholds current candidates k (steps b next growth) →
+          left ≡ released (total next' k) kept → stopped e (steps left next' growth') ≡ advance thresholds current candidates 0 count false s₀
+      advance_stopped p r = rw r (bind_stops h (one k) (others k changed) next_of (through_stop _ _ _ _ (step thresholds current candidates k) (steps b next growth) p))
+
+      pub advance_more : {moved : Bool} {u : Steps} → going moved u ≡ step thresholds current candidates k (steps b next growth) → Advancing (k + 1) (changed || moved) u
+      advance_more p = bind_goes h (one k) (others k changed) next_of (through_on _ _ _ _ (step thresholds current candidates k) (steps b next growth) p)

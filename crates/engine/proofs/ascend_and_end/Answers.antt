@@ -1,13 +1,23 @@
 -- `engine::ascend_and_end` meets its contract.
+use Rattle.limits.proofs.Answering.{exits}
+use Rattle.rounds.specs.Lent.{given_in}
+use Rattle.passes.specs.Pass.{ascent}
+use Rattle.results.specs.Result.{ending}
 use Rattle.engine.proofs.CodeLaws.{ascent_stopped, ascent_done}
 use Rattle.engine.proofs.ascend_and_end.Goals as goal
 
-pub returns-in-Stopped : goal.returns-in-Stopped
-returns-in-Stopped c =
+pub returns-in_err-ascend : goal.returns-in_err-ascend
+returns-in_err-ascend c =
     let a = c.args in
-    ascent_stopped a.nodes.now a.constants.now a.rules.now a.count a.seeds.now a.positions a.thresholds.now a.budget a.context a.current.now a.growth.now a.bounds.now _ _ c.ascend.ensures c.in-Stopped.is
+    let u = c.ascend.new in
+    exits c.from_residual.result c.from_residual.ensures.1
+    (ascent_stopped (given_in a.given.now) a.thresholds.now a.course.now.budget a.course.now.context a.current.now a.growth.now a.bounds.now (ascent u.course.budget u.course.context u.current u.growth) c.ascend.ensures
+    c.in_err-ascend.was)
 
-pub returns-in-Done : goal.returns-in-Done
-returns-in-Done c =
+pub returns : goal.returns
+returns c =
     let a = c.args in
-    ascent_done a.nodes.now a.constants.now a.rules.now a.count a.seeds.now a.positions a.thresholds.now a.budget a.context a.current.now a.growth.now a.bounds.now _ _ c.ascend.ensures c.in-Done.is c.last.result _ _ c.last.ensures
+    let u = c.ascend.new in
+    let v = c.last.new in
+    ascent_done (given_in a.given.now) a.thresholds.now a.course.now.budget a.course.now.context a.current.now a.growth.now a.bounds.now (ascent u.course.budget u.course.context u.current u.growth) c.ascend.ensures
+    c.in_ok-ascend.was c.last.result (ending v.course.budget v.course.context v.current v.bounds) c.last.ensures

@@ -6,14 +6,10 @@ use Rattle.engine.proofs.RunLaws.{cell_moved, cells_moved}
 use Rattle.engine.proofs.move_cells.Goals as goal
 
 pub loop-i-init : goal.loop-i-init
-loop-i-init c = (omega arith, refl, writing_none _ _ _)
-
-pub loop-i-smaller : goal.loop-i-smaller
-loop-i-smaller c = omega arith
+loop-i-init c = (refl, writing_none _ _ _)
 
 pub loop-i-preserved : goal.loop-i-preserved
-loop-i-preserved c =
-    (omega arith, c.to-1.given ∙ c.loop-i.invariant.1, cell_moved _ c.loop-i-test.true c.loop-i.invariant.2 c.cell_at.ensures c.put_cell.ensures)
+loop-i-preserved c = (c.put_cell.auto.cells ∙ c.loop-i.invariant.0, cell_moved _ c.loop-i-test.true c.loop-i.invariant.1 c.cell_at.ensures c.put_cell.ensures)
 
 pub returns : goal.returns
-returns c = cells_moved _ c.loop-i.invariant.2 (omega arith)
+returns c = cells_moved _ c.loop-i.invariant.1 (omega arith)

@@ -1,23 +1,23 @@
 -- `passes::ascend` meets its contract.
 use mathlib.Core.Path.{refl, ◌∙◌}
-use Rattle.passes.proofs.PassLaws.{ascend_begun, ascend_stopped, ascend_settled, ascend_less, ascend_again}
+use Rattle.limits.proofs.Answering.{exits}
+use Rattle.rounds.specs.Lent.{given_in}
+use Rattle.passes.proofs.Rounds.{fewer_left, pass_pays}
+use Rattle.passes.proofs.PassLaws.{ascending, ascend_stopped, ascend_settled, ascend_again}
 use Rattle.passes.proofs.ascend.Goals as goal
 
-pub loop-stop-init : goal.loop-stop-init
-loop-stop-init c = (refl, (refl, ascend_begun _ _ _))
+pub loop-init : goal.loop-init
+loop-init c = (refl, (refl, ascending _ _ _))
 
-pub returns-in-Stopped : goal.returns-in-Stopped
-returns-in-Stopped c =
-    ascend_stopped c.loop-stop.invariant.1.1 _ _ c.pass.ensures c.in-Stopped.is
+pub returns-in_err-pass : goal.returns-in_err-pass
+returns-in_err-pass c = exits c.from_residual.result c.from_residual.ensures.1 (ascend_stopped _ _ _ c.loop.invariant.1.1 c.in_err-pass.ensures)
 
-pub returns-in-Settled : goal.returns-in-Settled
-returns-in-Settled c =
-    ascend_settled c.loop-stop.invariant.1.1 _ _ c.pass.ensures c.in-Settled.is
+pub loop-smaller : goal.loop-smaller
+loop-smaller c = fewer_left (pass_pays (given_in c.args.given.now) c.args.thresholds.now _ c.in_ok-pass.ensures)
 
-pub loop-stop-smaller : goal.loop-stop-smaller
-loop-stop-smaller c =
-    ascend_less c.loop-stop.invariant.1.1 _ _ c.pass.ensures c.in-Changed.is
+pub loop-preserved : goal.loop-preserved
+loop-preserved c =
+    (c.pass.auto.current ∙ c.loop.invariant.0, (c.pass.auto.growth ∙ c.loop.invariant.1.0, ascend_again _ _ _ c.loop.invariant.1.1 (rw (← c.if-branch.true) c.in_ok-pass.ensures)))
 
-pub loop-stop-preserved : goal.loop-stop-preserved
-loop-stop-preserved c =
-    (c.current-1.given ∙ c.loop-stop.invariant.0, (c.growth-1.given ∙ c.loop-stop.invariant.1.0, ascend_again c.loop-stop.invariant.1.1 _ _ c.pass.ensures c.in-Changed.is))
+pub returns : goal.returns
+returns c = ascend_settled _ _ _ c.loop.invariant.1.1 (rw (← c.if-branch.false) c.in_ok-pass.ensures)

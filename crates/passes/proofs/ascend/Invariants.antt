@@ -1,17 +1,15 @@
 -- `passes::ascend` meets its contract.
-use Prim.Native.Nat.{◌-◌}
 use mathlib.Core.Path.{◌≡◌}
 use lib.ListN.{length}
-use Rattle.evaluation.specs.Evaluation.{input}
-use Rattle.rounds.specs.Round.{given}
+use Rattle.rounds.specs.Lent.{given_in}
 use Rattle.passes.specs.Pass.{ascent}
+use Rattle.passes.proofs.Rounds.{left}
 use Rattle.passes.proofs.PassLaws.{Ascending}
 use Rattle.passes.proofs.ascend.Given as goal
 
-abbrev pub invariant-loop-stop : goal.invariant-loop-stop
-invariant-loop-stop l =
-    (length l.current ≡ length l.initial.current) × ((length l.growth ≡ length l.initial.growth) × Ascending (λ w. given (input l.nodes l.constants w) l.rules l.count l.seeds l.positions) l.thresholds (ascent l.initial.left l.initial.force l.initial.current l.initial.growth) (ascent l.left l.force l.current l.growth))
+abbrev pub invariant-loop : goal.invariant-loop
+invariant-loop l =
+    (length l.current ≡ length l.fn.current) × ((length l.growth ≡ length l.fn.growth) × Ascending (given_in l.given) l.thresholds (ascent l.fn.course.budget l.fn.course.context l.fn.current l.fn.growth) (ascent l.course.budget l.course.context l.current l.growth))
 
-abbrev pub decreases-loop-stop : goal.decreases-loop-stop
-decreases-loop-stop l =
-    l.left.limits.rounds - l.left.statistics.rounds
+abbrev pub decreases-loop : goal.decreases-loop
+decreases-loop l = left l.course.budget

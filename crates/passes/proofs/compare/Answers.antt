@@ -1,18 +1,20 @@
 -- `passes::compare` meets its contract.
-use Rattle.passes.proofs.StepLaws.{compare_stopped, compare_yes, compare_no}
+use Rattle.lists.proofs.Seen.{seen_exits}
+use Rattle.lattice.specs.Value.{value_of}
+use Rattle.lattice.specs.Lattice.{same}
+use Rattle.passes.proofs.StepLaws.{held, compare_stopped, compare_on}
+use Rattle.passes.specs.Lent.{grown_in}
 use Rattle.passes.proofs.compare.Goals as goal
 
-pub returns-in-Stopped : goal.returns-in-Stopped
-returns-in-Stopped c =
+pub returns-in_err-same : goal.returns-in_err-same
+returns-in_err-same c =
     let a = c.args in
-    compare_stopped a.old a.value a.growth a.entries c.same_counted.ensures c.in-Stopped.is c.entries_of.ensures c.release-live.ensures c.stopped.ensures
+    seen_exits grown_in c.from_residual.result c.from_residual.ensures.1
+    (compare_stopped (value_of a.old) (value_of a.value) a.growth a.meter.now
+    (held (value_of a.value) (same (value_of a.old) (value_of a.value)) a.meter.now c.entries_of.ensures _ _ c.same-same.ensures _ _ c.holding.ensures) c.in_err-same.was)
 
-pub returns-in-Yes : goal.returns-in-Yes
-returns-in-Yes c =
+pub returns : goal.returns
+returns c =
     let a = c.args in
-    compare_yes a.old a.value a.growth a.entries c.same_counted.ensures c.in-Yes.is
-
-pub returns-in-No : goal.returns-in-No
-returns-in-No c =
-    let a = c.args in
-    compare_no a.old a.value a.growth a.entries c.same_counted.ensures c.in-No.is
+    compare_on (value_of a.old) (value_of a.value) a.growth a.meter.now
+    (held (value_of a.value) (same (value_of a.old) (value_of a.value)) a.meter.now c.entries_of.ensures _ _ c.same-same.ensures _ _ c.holding.ensures) c.in_ok-same.was

@@ -1,19 +1,25 @@
 -- `passes::grow` meets its contract.
+use Rattle.lists.proofs.Seen.{seen_exits}
 use Rattle.lattice.specs.Value.{value_of}
 use Rattle.passes.proofs.StepLaws.{grow_unpaid, grow_unjoined, grow_on}
+use Rattle.passes.specs.Lent.{grown_in}
 use Rattle.passes.proofs.grow.Goals as goal
 
-pub returns-in-Stopped : goal.returns-in-Stopped
-returns-in-Stopped c =
+pub returns-in_err-work : goal.returns-in_err-work
+returns-in_err-work c =
     let a = c.args in
-    grow_unpaid a.width a.thresholds.now (value_of a.old) (value_of a.candidate) a.growth a.work a.max_work a.entries a.max_entries c.charge.ensures c.in-Stopped.is c.stopped.ensures
+    seen_exits grown_in c.from_residual.result c.from_residual.ensures.1
+    (grow_unpaid a.width a.thresholds.now (value_of a.old) (value_of a.candidate) a.growth a.meter.now c.in_err-work.ensures)
 
-pub returns-in-Stopped-outcome : goal.returns-in-Stopped-outcome
-returns-in-Stopped-outcome c =
+pub returns-in_err-value : goal.returns-in_err-value
+returns-in_err-value c =
     let a = c.args in
-    grow_unjoined a.width a.thresholds.now (value_of a.old) (value_of a.candidate) a.growth a.work a.max_work a.entries a.max_entries c.charge.ensures c.in-Paid.is c.join_counted-made.result c.join_counted-made.ensures c.in-Stopped-outcome.is c.stopped-in-Stopped-outcome.ensures
+    seen_exits grown_in c.from_residual-in_err-value.result c.from_residual-in_err-value.ensures.1
+    (grow_unjoined a.width a.thresholds.now (value_of a.old) (value_of a.candidate) a.growth a.meter.now c.in_ok-work.ensures
+    c.in_err-value.ensures)
 
-pub returns-in-Done : goal.returns-in-Done
-returns-in-Done c =
+pub returns : goal.returns
+returns c =
     let a = c.args in
-    grow_on a.width a.thresholds.now (value_of a.old) (value_of a.candidate) a.growth a.work a.max_work a.entries a.max_entries c.charge.ensures c.in-Paid.is c.join_counted-made.result c.join_counted-made.ensures c.in-Done.is c.widen_value.ensures
+    grow_on a.width a.thresholds.now (value_of a.old) (value_of a.candidate) a.growth a.meter.now c.in_ok-work.ensures
+    c.in_ok-value.ensures c.widen_value.ensures

@@ -1,15 +1,16 @@
 -- `passes::pass` meets its contract.
-use Rattle.evaluation.specs.Evaluation.{input}
-use Rattle.rounds.specs.Round.{given}
+use Rattle.limits.proofs.Answering.{exits}
+use Rattle.rounds.specs.Lent.{given_in}
 use Rattle.passes.proofs.PassLaws.{pass_stopped, pass_on}
 use Rattle.passes.proofs.pass.Goals as goal
 
-pub returns-in-Stopped : goal.returns-in-Stopped
-returns-in-Stopped c =
+pub returns-in_err-image : goal.returns-in_err-image
+returns-in_err-image c =
     let a = c.args in
-    pass_stopped (given (input a.nodes.now a.constants.now a.budget.limits.width) a.rules.now a.count a.seeds.now a.positions) a.thresholds.now a.budget a.context a.current.now a.growth.now _ c.image.ensures c.in-Stopped.is
+    exits c.from_residual.result c.from_residual.ensures.1
+    (pass_stopped (given_in a.given.now) a.thresholds.now a.course.now.budget a.course.now.context a.current.now a.growth.now _ _ _ c.image.ensures c.in_err-image.was)
 
-pub returns-in-Done : goal.returns-in-Done
-returns-in-Done c =
+pub returns : goal.returns
+returns c =
     let a = c.args in
-    pass_on (given (input a.nodes.now a.constants.now a.budget.limits.width) a.rules.now a.count a.seeds.now a.positions) a.thresholds.now a.budget a.context a.current.now a.growth.now _ c.image.ensures c.in-Done.is c.renew.ensures
+    pass_on (given_in a.given.now) a.thresholds.now a.course.now.budget a.course.now.context a.current.now a.growth.now _ _ _ c.image.ensures c.in_ok-image.was c.renew.ensures

@@ -1,18 +1,16 @@
 -- `passes::renew` meets its contract.
-use Rattle.passes.proofs.PassLaws.{renew_stopped, renew_changed, renew_settled}
+use Rattle.limits.proofs.Answering.{exits}
+use Rattle.passes.proofs.PassLaws.{renew_stopped, renew_on}
 use Rattle.passes.proofs.renew.Goals as goal
 
-pub returns-then-changed : goal.returns-then-changed
-returns-then-changed c =
+pub returns-in_err-changed : goal.returns-in_err-changed
+returns-in_err-changed c =
     let a = c.args in
-    renew_changed a.positions a.thresholds.now a.candidates.now a.current.now a.growth.now a.budget a.context _ _ c.advance.ensures c.in-Done.is c.without_rows-fewer.ensures c.without_rows-kept.ensures c.move_rows.ensures c.if-changed.true
+    exits c.from_residual.result c.from_residual.ensures.1
+    (renew_stopped a.positions a.thresholds.now a.candidates.now a.current.now a.growth.now a.course.now.budget a.course.now.context _ _ _ c.advance-advanced.ensures c.without_rows.ensures c.in_err-changed.was)
 
-pub returns-in-Stopped : goal.returns-in-Stopped
-returns-in-Stopped c =
+pub returns : goal.returns
+returns c =
     let a = c.args in
-    renew_stopped a.positions a.thresholds.now a.candidates.now a.current.now a.growth.now a.budget a.context _ _ c.advance.ensures c.in-Stopped.is c.without_rows.ensures
-
-pub returns-else-changed : goal.returns-else-changed
-returns-else-changed c =
-    let a = c.args in
-    renew_settled a.positions a.thresholds.now a.candidates.now a.current.now a.growth.now a.budget a.context _ _ c.advance.ensures c.in-Done.is c.without_rows-fewer.ensures c.without_rows-kept.ensures c.move_rows.ensures c.if-changed.false
+    renew_on a.positions a.thresholds.now a.candidates.now a.current.now a.growth.now a.course.now.budget a.course.now.context _ _ _ c.advance-advanced.ensures c.without_rows.ensures c.in_ok-changed.was
+    c.without_rows-2.ensures c.move_rows.ensures
