@@ -1,12 +1,14 @@
 -- What follows from a clause `answered r s ≡ y`, at each way out of the code.
 use Prim.Native.Nat.{ℕ}
+use native.Mathlib.Omega.{arith}
+use mathlib.Core.Bool.{true, false}
 use mathlib.Core.Path.{◌≡◌, refl, sym, ap, ◌∙◌}
-use Rattle.std.proofs.Common.{Result, Ok, Err}
+use Rattle.std.proofs.Common.{Result, Ok, Err, is_err}
 use Rattle.std.specs.Prelude.{IsErrAnd}
 use Rattle.std.proofs.lemmas.Result.{err_from_is_err_and}
 use Rattle.limits.specs.declared.Stop.{Stop}
 use Rattle.limits.specs.declared.Meter.{Meter}
-use Rattle.limits.specs.Metered.{Run, going, stopped, Metered, answered, mapped, through, zoom}
+use Rattle.limits.specs.Metered.{Run, going, stopped, Metered, answered, mapped, through, on_stop, zoom}
 use Rattle.limits.specs.Meter.{released, holding, held_through}
 use Rattle.limits.proofs.Monad.{through_is}
 use Rattle.limits.specs.Refusal.{Told, told, replied}
@@ -48,15 +50,33 @@ module _ {S A : Type 0} {s : S} {y : Run Told S A} where
   pub refuses : (x : Result A Refusal) (e : Refusal) → IsErrAnd x (λ d. d ≡ e) → stopped (told e) s ≡ y → replied x s ≡ y
   refuses x e h k = let p = err_from_is_err_and x h in rw (p.1, p.2) k
 
--- what the code answers on a part of the state
-module _ {E S T A : Type 0} (get : S → T) (put : T → S → S) (m : Metered E T A) (s : S) where
-  pub answered_through : (r : Result A E) (t : T) → answered r t ≡ m (get s) → answered r (put t s) ≡ zoom get put m s
+-- what a step answers on a part of the state, or with something done to the state whichever way it ends: for `zoom` and `finally`
+module _ {E S T A : Type 0} (get : S → T) (kept : S → T → S) (m : Metered E T A) (s : S) where
+  pub answered_through : (r : Result A E) (t : T) → answered r t ≡ m (get s) → answered r (kept s t) ≡ through get kept kept (λ e. e) m s
   unfolding through mapped
   answered_through r t h = rw (← h) (go r)
     where
-      go : (r : Result A E) → answered r (put t s) ≡ mapped (λ u. put u s) (λ u. put u s) (λ e. e) (answered r t)
+      go : (r : Result A E) → answered r (kept s t) ≡ mapped (kept s) (kept s) (λ e. e) (answered r t)
       go (Ok a) = refl
       go (Err e) = refl
+
+-- and with something done where it is stopped
+module _ {E S A : Type 0} (f : S → S) (m : Metered E S A) (s : S) (r : Result A E) (t : S) (h : answered r t ≡ m s) where
+  pub answered_lost : is_err r ≡ true → answered r (f t) ≡ on_stop f m s
+  unfolding through mapped
+  answered_lost e = rw (← h) (go r e)
+    where
+      go : (r : Result A E) → is_err r ≡ true → answered r (f t) ≡ mapped (λ t. t) f (λ e. e) (answered r t)
+      go (Ok a) e = let z : ◌≡◌ {A = ℕ} 0 1 = cc in absurd (omega arith)
+      go (Err x) e = refl
+
+  pub answered_kept : is_err r ≡ false → answered r t ≡ on_stop f m s
+  unfolding through mapped
+  answered_kept e = rw (← h) (go r e)
+    where
+      go : (r : Result A E) → is_err r ≡ false → answered r t ≡ mapped (λ t. t) f (λ e. e) (answered r t)
+      go (Ok a) e = refl
+      go (Err x) e = let z : ◌≡◌ {A = ℕ} 0 1 = cc in absurd (omega arith)
 
 -- what a call answers on a part of the state
 module _ {S T A : Type 0} (get : S → T) (put : T → S → S) (m : Metered Told T A) (s : S) where
