@@ -17,7 +17,7 @@ use Rattle.limits.specs.declared.Refusal.{Refusal}
 use Rattle.limits.specs.Refusal.{Told, told}
 use Rattle.limits.specs.Records.{fresh}
 use Rattle.limits.specs.Metered.{Run, going, stopped, Metered, pure, after, ◌>>=◌, ◌>>◌, mapped, through}
-use Rattle.limits.specs.Budget.{ran, work, predicates, positions}
+use Rattle.limits.specs.Budget.{work, predicates, positions}
 use Rattle.limits.proofs.Monad.{then_on, then_stop, through_on, through_stop, came}
 use Rattle.thresholds.specs.Thresholds.{Entry, entry}
 use Rattle.integers.proofs.Tests.{and_left, and_right}
