@@ -1,3 +1,3 @@
 pub mod CodeLaws
-pub mod Steady
 pub mod Live
+pub mod Steady

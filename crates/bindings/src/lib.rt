@@ -17,12 +17,7 @@ use limits::{Meter, Stop};
 use rules::{AggregateFunction, Binding};
 
 // An expression over the slots' values, under no refinement: no guard has been seen yet.
-fn assigned(
-    input: &Input,
-    cells: &[u32],
-    id: u64,
-    meter: &mut Meter,
-) -> Result<Abstract, Stop>
+fn assigned(input: &Input, cells: &[u32], id: u64, meter: &mut Meter) -> Result<Abstract, Stop>
     ensures { answered_value result meter.new ≡ assigned (input_in input.now) cells.now id meter.old }
 {
     let scene = Scene {
@@ -77,13 +72,21 @@ fn meet_binding(
 ) -> Result<(), Stop>
     ensures { answered result (slots meter.new cells.new) ≡ meet_binding (input_in input.now) binding (slots meter.old cells.old) }
 {
-    let (slot, value) = match binding {
-        Binding::Positive { .. } => return Ok(()),
-        Binding::Assign { slot, value } => (slot, assigned(input, cells, value, meter)?),
-        Binding::Range { slot, low, high } => (slot, ranged(input, cells, low, high, meter)?),
-        Binding::Aggregate { slot, function } => (slot, aggregate(function)),
-    };
-    slots::meet_owned(cells, slot as usize, value, input.constants, meter)
+    match binding {
+        Binding::Positive { .. } => Ok(()),
+        Binding::Assign { slot, value } => {
+            let value = assigned(input, cells, value, meter)?;
+            slots::meet_owned(cells, slot as usize, value, input.constants, meter)
+        }
+        Binding::Range { slot, low, high } => {
+            let value = ranged(input, cells, low, high, meter)?;
+            slots::meet_owned(cells, slot as usize, value, input.constants, meter)
+        }
+        Binding::Aggregate { slot, function } => {
+            let value = aggregate(function);
+            slots::meet_owned(cells, slot as usize, value, input.constants, meter)
+        }
+    }
 }
 
 // The third pass over the bindings of a rule.

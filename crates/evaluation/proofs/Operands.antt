@@ -28,6 +28,8 @@ use Rattle.refinements.proofs.CodeLaws.{restrict_stopped, restrict_one, restrict
 use Rattle.evaluation.specs.declared.Operand.{Operand}
 use Rattle.evaluation.specs.Evaluation.{Values}
 use Rattle.evaluation.specs.Operands.{operand, numeral, shown, sees, sees_both}
+-- for the crates above that have no lists
+pub use Rattle.lists.proofs.Seen.{seen_went, seen_broke, seen_exits}
 
 -- ---- what is seen of a run
 

@@ -6,11 +6,11 @@
 ghost use Rattle.std.specs.Prelude.{ℕ, List, ◌≡◌};
 ghost use Rattle.std.proofs.Math.Option.{none};
 ghost use Rattle.limits.specs.Metered.{answered, after};
-ghost use Rattle.lattice.specs.Value.{Reason, Value, value, value_of};
+ghost use Rattle.lattice.specs.Value.{Reason, value, value_of};
 ghost use Rattle.lattice.specs.Answers.{answered_value};
 ghost use Rattle.lattice.specs.Constants.{constant_at};
 ghost use Rattle.lattice.specs.Lattice.{constant, numeric, copied};
-ghost use Rattle.rows.specs.Row.{id_of, entries_of, value_at};
+ghost use Rattle.rows.specs.Row.{id_of, value_at};
 ghost use Rattle.refinements.specs.Refinement.{narrow, restrict};
 ghost use Rattle.evaluation.specs.Evaluation.{known_identity, identical, unknown, expression, both};
 ghost use Rattle.evaluation.specs.Operands.{input_in, known_of, operand, numeral, sees, sees_both, combining, one_left, two_left};

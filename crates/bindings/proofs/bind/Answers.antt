@@ -1,20 +1,15 @@
 -- `bindings::bind` meets its contract.
-use Rattle.rules.specs.Read.{bindings_at}
-use Rattle.evaluation.specs.Evaluation.{input}
-use Rattle.bindings.proofs.CodeLaws.{tops_stopped, rows_dropped, rows_bound}
+use mathlib.Core.Path.{sym, ◌∙◌}
+use Rattle.limits.proofs.Answering.{went, broke, exits}
+use Rattle.bindings.proofs.CodeLaws.{tops_stopped, rows_bound, rows_dropped}
 use Rattle.bindings.proofs.bind.Goals as goal
 
-pub returns-in-Stopped : goal.returns-in-Stopped
-returns-in-Stopped c =
-    let a = c.args in
-    tops_stopped (input a.nodes.now a.constants.now a.width) a.arguments.now (bindings_at a.rules.now a.id) a.work a.max_work a.entries a.max_entries a.cells.now c.slots_at-count.ensures c.fill_tops_counted.ensures c.in-Stopped.is
+pub returns-in_err-fill_tops : goal.returns-in_err-fill_tops
+returns-in_err-fill_tops c = exits _ c.from_residual.ensures.1 (tops_stopped _ _ _ _ c.slots_at-count.ensures (broke c.fill_tops.ensures c.in_err-fill_tops.was))
 
-pub returns-in-Stopped-bind_rows : goal.returns-in-Stopped-bind_rows
-returns-in-Stopped-bind_rows c =
-    let a = c.args in
-    rows_dropped (input a.nodes.now a.constants.now a.width) a.arguments.now (bindings_at a.rules.now a.id) a.work a.max_work a.entries a.max_entries a.cells.now c.slots_at-count.ensures c.fill_tops_counted.ensures c.in-Paid.is c.bind_rows.ensures c.in-Stopped-bind_rows.is c.drop_rows_counted.ensures
+pub returns-then-is_err : goal.returns-then-is_err
+returns-then-is_err c =
+    rows_dropped _ _ _ _ c.slots_at-count.ensures (went c.fill_tops.ensures c.in_ok-fill_tops.was) c.bind_rows-bound.result _ _ c.bind_rows-bound.ensures (sym c.is_err.ensures.value ∙ c.if-is_err.true) c.drop_rows.ensures
 
-pub returns-in-Going : goal.returns-in-Going
-returns-in-Going c =
-    let a = c.args in
-    rows_bound (input a.nodes.now a.constants.now a.width) a.arguments.now (bindings_at a.rules.now a.id) a.work a.max_work a.entries a.max_entries a.cells.now c.slots_at-count.ensures c.fill_tops_counted.ensures c.in-Paid.is c.bind_rows.ensures c.in-Going.is
+pub returns-else-is_err : goal.returns-else-is_err
+returns-else-is_err c = rows_bound _ _ _ _ c.slots_at-count.ensures (went c.fill_tops.ensures c.in_ok-fill_tops.was) c.bind_rows-bound.result _ _ c.bind_rows-bound.ensures (sym c.is_err.ensures.value ∙ c.if-is_err.false)

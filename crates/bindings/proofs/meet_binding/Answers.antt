@@ -1,25 +1,25 @@
 -- `bindings::meet_binding` meets its contract.
-use Rattle.limits.specs.Meter.{meter}
-use Rattle.evaluation.specs.Evaluation.{input}
-use Rattle.bindings.proofs.CodeLaws.{positive_passed, assign_met, range_met, aggregate_met}
+use Rattle.limits.proofs.Answering.{exits}
+use Rattle.limits.proofs.Monad.{pure_is}
+use Rattle.lattice.specs.Value.{value_of}
+use Rattle.evaluation.proofs.Operands.{seen_went, seen_broke}
+use Rattle.bindings.proofs.CodeLaws.{value_stopped, value_met}
 use Rattle.bindings.proofs.meet_binding.Goals as goal
 
 pub returns-in-Positive : goal.returns-in-Positive
-returns-in-Positive c =
-    let a = c.args in
-    positive_passed (input a.nodes.now a.constants.now a.width) (meter a.work a.max_work a.entries a.max_entries) a.cells.now c.in-Positive.is
+returns-in-Positive c = rw c.in-Positive.is (pure_is _ _)
 
-pub returns-in-Assign : goal.returns-in-Assign
-returns-in-Assign c =
-    let a = c.args in
-    assign_met (input a.nodes.now a.constants.now a.width) (meter a.work a.max_work a.entries a.max_entries) a.cells.now c.in-Assign.is c.assigned-made.ensures c.meet_made.ensures
+pub returns-in_err-value-in-Assign : goal.returns-in_err-value-in-Assign
+returns-in_err-value-in-Assign c = exits _ c.from_residual.ensures.1 (rw c.in-Assign.is (value_stopped _ _ _ _ _ (seen_broke value_of c.assigned.ensures c.in_err-value-in-Assign.was)))
 
-pub returns-in-Range : goal.returns-in-Range
-returns-in-Range c =
-    let a = c.args in
-    range_met (input a.nodes.now a.constants.now a.width) (meter a.work a.max_work a.entries a.max_entries) a.cells.now c.in-Range.is c.ranged-made.ensures c.meet_made-in-Range.ensures
+pub returns-in_ok-value-in-Assign : goal.returns-in_ok-value-in-Assign
+returns-in_ok-value-in-Assign c = rw c.in-Assign.is (value_met _ _ _ _ _ (seen_went value_of c.assigned.ensures c.in_ok-value-in-Assign.was) c.meet_owned.ensures)
+
+pub returns-in_err-value-in-Range : goal.returns-in_err-value-in-Range
+returns-in_err-value-in-Range c = exits _ c.from_residual-in_err-value-in-Range.ensures.1 (rw c.in-Range.is (value_stopped _ _ _ _ _ (seen_broke value_of c.ranged.ensures c.in_err-value-in-Range.was)))
+
+pub returns-in_ok-value-in-Range : goal.returns-in_ok-value-in-Range
+returns-in_ok-value-in-Range c = rw c.in-Range.is (value_met _ _ _ _ _ (seen_went value_of c.ranged.ensures c.in_ok-value-in-Range.was) c.meet_owned-in-Range.ensures)
 
 pub returns-in-Aggregate : goal.returns-in-Aggregate
-returns-in-Aggregate c =
-    let a = c.args in
-    aggregate_met (input a.nodes.now a.constants.now a.width) (meter a.work a.max_work a.entries a.max_entries) a.cells.now c.in-Aggregate.is c.aggregate.ensures c.meet_owned_counted.ensures
+returns-in-Aggregate c = rw (c.in-Aggregate.is, ← c.aggregate-value.ensures) c.meet_owned-in-Aggregate.ensures
