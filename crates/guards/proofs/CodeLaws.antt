@@ -1,4 +1,5 @@
--- What the code of guards answers, over plain variables: a step that is stopped, a step for each item of a run, and a guard's two operands.
+-- What the code of guards answers, over plain variables: a step whose end the code looks for, a step on a part of the state, a step for each
+-- item of a run, and a guard's two operands. All but the last speak of no guard.
 use Prim.Native.Nat.{ℕ, suc, ◌+◌, ◌-◌, ◌<◌, ◌≤◌}
 use native.Mathlib.Omega.{arith}
 use mathlib.Core.Path.{◌≡◌, refl, ap}
@@ -7,7 +8,7 @@ use mathlib.Core.List.{List}
 use Rattle.std.proofs.Common.{Result, Ok, Err, is_err}
 use Rattle.integers.specs.Lists.{from}
 use Rattle.limits.specs.declared.Stop.{Stop}
-use Rattle.limits.specs.Metered.{Run, going, stopped, Metered, answered, ◌>>=◌, fold_m, on_stop, finally, mapped, through}
+use Rattle.limits.specs.Metered.{Run, going, stopped, Metered, answered, ◌>>=◌, fold_m, on_stop, finally, zoom, mapped, through}
 use Rattle.limits.specs.declared.Meter.{Meter}
 use Rattle.limits.specs.Meter.{released}
 use Rattle.limits.proofs.Monad.{bind_stop, bind_on, through_stop, through_on}
@@ -40,6 +41,13 @@ module _ {E S A : Type 0} (f : S → S) (m : Metered E S A) (at s : S) where
   unfolding through mapped
   ended (Ok a) h = rw (← h)
   ended (Err x) h = rw (← h)
+
+-- a step on a part of the state
+module _ {E S T A : Type 0} (get : S → T) (put : T → S → S) (m : Metered E T A) (at : S) (t : T) where
+  pub zoomed : (x : Result A E) → answered x t ≡ m (get at) → answered x (put t at) ≡ zoom get put m at
+  unfolding through mapped
+  zoomed (Ok a) h = rw (← h)
+  zoomed (Err x) h = rw (← h)
 
 -- ---- a step for each item of a run
 

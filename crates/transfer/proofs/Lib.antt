@@ -1,3 +1,2 @@
-pub mod CodeLaws
 pub mod Steady
 pub mod Live

@@ -2,8 +2,8 @@
 use mathlib.Core.Path.{sym}
 use Rattle.limits.proofs.Answering.{exits}
 use Rattle.limits.proofs.Monad.{then_stop, then_on, through_stop, through_on}
-use Rattle.slots.specs.Slots.{total, copies}
-use Rattle.guards.specs.Guards.{fewer, guard}
+use Rattle.slots.specs.Slots.{copies}
+use Rattle.guards.specs.Guards.{guard_all, guard}
 use Rattle.guards.proofs.CodeLaws.{halted, passed}
 use Rattle.guards.proofs.guard.Goals as goal
 
@@ -17,11 +17,11 @@ unfolding guard
 returns-then-is_err c =
     rw (← c.slots_at-count.ensures, c.drop_rows.ensures)
     (then_on _ _ _ (through_on _ _ _ _ (copies _ _ _) _ c.in_ok-copy_rows.ensures)
-    (halted (λ s. fewer (total s.produced c.slots_at-count.result) s) _ _ _ _ (sym c.if-is_err.ensures.value) c.guard_rows-guarded.ensures))
+    (halted _ (guard_all _ _) _ _ _ (sym c.if-is_err.ensures.value) c.guard_rows-guarded.ensures))
 
 pub returns-else-is_err : goal.returns-else-is_err
 unfolding guard
 returns-else-is_err c =
     rw (← c.slots_at-count.ensures)
     (then_on _ _ _ (through_on _ _ _ _ (copies _ _ _) _ c.in_ok-copy_rows.ensures)
-    (passed (λ s. fewer (total s.produced c.slots_at-count.result) s) _ _ _ _ (sym c.if-is_err.ensures.value) c.guard_rows-guarded.ensures))
+    (passed _ (guard_all _ _) _ _ _ (sym c.if-is_err.ensures.value) c.guard_rows-guarded.ensures))

@@ -1,9 +1,8 @@
 -- `guards::narrow_known` meets its contract.
 use Rattle.limits.proofs.Answering.{exits}
 use Rattle.limits.proofs.Monad.{bind_stop, bind_on, then_stop, then_on, through_stop, through_on, pure_is}
-use Rattle.guards.specs.Guards.{narrow_known}
 use Rattle.refinements.specs.Refinement.{note}
-use Rattle.guards.specs.Guards.{narrow_slot}
+use Rattle.guards.specs.Guards.{narrow_slot, narrow_known}
 use Rattle.guards.proofs.narrow_known.Goals as goal
 
 pub returns-in_err-recorded : goal.returns-in_err-recorded
