@@ -1,19 +1,14 @@
 -- `results::close` meets its contract.
-use Rattle.evaluation.specs.Evaluation.{input}
-use Rattle.results.proofs.CodeLaws.{rules_stopped, closing_stopped, closing_paid}
+use Rattle.limits.proofs.Answering.{exits}
+use Rattle.limits.proofs.Monad.{then_stop, then_on}
+use Rattle.rounds.proofs.CodeLaws.{answered_through}
+use Rattle.results.specs.Result.{bound, close}
 use Rattle.results.proofs.close.Goals as goal
 
-pub returns-in-Stopped : goal.returns-in-Stopped
-returns-in-Stopped c =
-    let a = c.args in
-    rules_stopped (input a.nodes.now a.constants.now a.budget.limits.width) a.rules.now a.count a.positions a.current.now a.budget a.context a.bounds.now _ c.bound_rules.ensures c.in-Stopped.is
+pub returns-in_err-each_rule : goal.returns-in_err-each_rule
+unfolding close bound
+returns-in_err-each_rule c = exits c.from_residual.result c.from_residual.ensures.1 (then_stop _ _ _ c.in_err-each_rule.ensures)
 
-pub returns-in-Stopped-charge : goal.returns-in-Stopped-charge
-returns-in-Stopped-charge c =
-    let a = c.args in
-    closing_stopped (input a.nodes.now a.constants.now a.budget.limits.width) a.rules.now a.count a.positions a.current.now a.budget a.context a.bounds.now _ c.bound_rules.ensures c.in-Done.is c.charge.ensures c.in-Stopped-charge.is
-
-pub returns-in-Paid : goal.returns-in-Paid
-returns-in-Paid c =
-    let a = c.args in
-    closing_paid (input a.nodes.now a.constants.now a.budget.limits.width) a.rules.now a.count a.positions a.current.now a.budget a.context a.bounds.now _ c.bound_rules.ensures c.in-Done.is c.charge.ensures c.in-Paid.is
+pub returns : goal.returns
+unfolding close bound
+returns c = then_on _ _ _ c.in_ok-each_rule.ensures (answered_through _ _ _ _ _ _ c.pay.ensures)

@@ -1,23 +1,17 @@
 -- `results::keep` meets its contract.
 use native.Mathlib.Omega.{arith}
-use mathlib.Core.Path.{refl, ◌∙◌}
-use Rattle.slots.proofs.Counts.{paying_stops, paying_goes, paying_ends, pays_stopped}
-use Rattle.results.proofs.CodeLaws.{keep_begun, keep_next, keep_none, bound_kept}
+use Rattle.limits.proofs.Answering.{exits}
+use Rattle.results.proofs.CodeLaws.{keep_begun, kept, keep_stopped, keep_more}
 use Rattle.results.proofs.keep.Goals as goal
 
 pub loop-slot-init : goal.loop-slot-init
-loop-slot-init c = (refl, keep_begun _ _ _ _ _ _ _)
+loop-slot-init c = keep_begun _ _ _ _ _
 
-pub returns-in-Stopped : goal.returns-in-Stopped
-returns-in-Stopped c =
-    paying_stops c.loop-slot.invariant.1 _ _ (keep_next _ _ _ c.loop-slot-test.true) (pays_stopped _ c.charge.ensures c.in-Stopped.is) refl
-
-pub loop-slot-smaller : goal.loop-slot-smaller
-loop-slot-smaller c = omega arith
+pub returns-in_err-work : goal.returns-in_err-work
+returns-in_err-work c = exits c.from_residual.result c.from_residual.ensures.1 (keep_stopped _ _ _ _ _ c.loop-slot.invariant c.loop-slot-test.true c.in_err-work.ensures)
 
 pub loop-slot-preserved : goal.loop-slot-preserved
-loop-slot-preserved c =
-    (c.bounds-1.given ∙ c.loop-slot.invariant.0, paying_goes c.loop-slot.invariant.1 _ _ (keep_next _ _ _ c.loop-slot-test.true) (bound_kept _ _ _ _ c.charge.ensures c.in-Paid.is c.abstract_at-value.ensures c.put_bound.ensures) refl)
+loop-slot-preserved c = keep_more _ _ _ _ _ c.loop-slot.invariant c.loop-slot-test.true c.in_ok-work.ensures c.bound_at.ensures c.put_bound.ensures
 
 pub returns : goal.returns
-returns c = paying_ends c.loop-slot.invariant.1 (keep_none _ _ _ (omega arith))
+returns c = kept _ _ _ _ _ c.loop-slot.invariant (omega arith)

@@ -1,10 +1,13 @@
 -- `results::keep_both` meets its contract.
-use Rattle.results.proofs.CodeLaws.{both_stopped, both_kept}
+use Rattle.limits.proofs.Answering.{exits}
+use Rattle.limits.proofs.Monad.{then_stop, then_on}
+use Rattle.results.specs.Result.{keep_both}
 use Rattle.results.proofs.keep_both.Goals as goal
 
-pub returns-in-Stopped : goal.returns-in-Stopped
-returns-in-Stopped c = both_stopped _ _ _ _ _ _ _ c.keep.ensures c.in-Stopped.is
+pub returns-in_err-keep : goal.returns-in_err-keep
+unfolding keep_both
+returns-in_err-keep c = exits c.from_residual.result c.from_residual.ensures.1 (then_stop _ _ _ c.in_err-keep.ensures)
 
-pub returns-in-Paid : goal.returns-in-Paid
-returns-in-Paid c =
-    both_kept _ _ _ _ _ _ _ c.keep.ensures c.in-Paid.is c.keep-in-Paid.ensures
+pub returns : goal.returns
+unfolding keep_both
+returns c = then_on _ _ _ c.in_ok-keep.ensures c.keep-2.ensures

@@ -1,13 +1,14 @@
 -- `results::last` meets its contract.
-use Rattle.results.proofs.CodeLaws.{last_stopped, last_closed}
+use Rattle.limits.proofs.Answering.{exits}
+use Rattle.limits.proofs.Monad.{then_stop, then_on, through_stop, through_on}
+use Rattle.rounds.proofs.CodeLaws.{answered_through}
+use Rattle.results.specs.Result.{closing, last}
 use Rattle.results.proofs.last.Goals as goal
 
-pub returns-in-Stopped : goal.returns-in-Stopped
-returns-in-Stopped c =
-    let a = c.args in
-    last_stopped a.nodes.now a.constants.now a.rules.now a.count a.seeds.now a.positions a.budget a.context a.current.now a.bounds.now _ c.last_round.ensures c.in-Stopped.is
+pub returns-in_err-last_round : goal.returns-in_err-last_round
+unfolding last
+returns-in_err-last_round c = exits c.from_residual.result c.from_residual.ensures.1 (then_stop _ _ _ (through_stop _ _ _ _ _ _ c.in_err-last_round.ensures))
 
-pub returns-in-Done : goal.returns-in-Done
-returns-in-Done c =
-    let a = c.args in
-    last_closed a.nodes.now a.constants.now a.rules.now a.count a.seeds.now a.positions a.budget a.context a.current.now a.bounds.now _ c.last_round.ensures c.close.result _ c.in-Done.is c.close.ensures
+pub returns : goal.returns
+unfolding last closing
+returns c = then_on _ _ _ (through_on _ _ _ _ _ _ c.in_ok-last_round.ensures) (answered_through _ _ _ _ _ _ c.close.ensures)

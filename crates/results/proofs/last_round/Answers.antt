@@ -1,15 +1,15 @@
 -- `results::last_round` meets its contract.
-use Rattle.evaluation.specs.Evaluation.{input}
-use Rattle.rounds.specs.Round.{given}
-use Rattle.results.proofs.CodeLaws.{round_stopped, round_done}
+use mathlib.Core.Path.{ap}
+use Rattle.limits.proofs.Answering.{exits}
+use Rattle.limits.proofs.Monad.{bind_stop, bind_on, through_stop, through_on}
+use Rattle.rounds.specs.Round.{candidates_of, candidates}
+use Rattle.results.specs.Result.{last_round}
 use Rattle.results.proofs.last_round.Goals as goal
 
-pub returns-in-Stopped : goal.returns-in-Stopped
-returns-in-Stopped c =
-    let a = c.args in
-    round_stopped (given (input a.nodes.now a.constants.now a.budget.limits.width) a.rules.now a.count a.seeds.now a.positions) a.budget a.context a.current.now _ c.image.ensures c.in-Stopped.is
+pub returns-in_err-image : goal.returns-in_err-image
+unfolding last_round candidates
+returns-in_err-image c = exits c.from_residual.result c.from_residual.ensures.1 (bind_stop _ _ _ (through_stop _ _ _ _ _ _ (ap candidates_of c.in_err-image.ensures)))
 
-pub returns-in-Done : goal.returns-in-Done
-returns-in-Done c =
-    let a = c.args in
-    round_done (given (input a.nodes.now a.constants.now a.budget.limits.width) a.rules.now a.count a.seeds.now a.positions) a.budget a.context a.current.now _ c.image.ensures c.in-Done.is c.without_rows-left.ensures c.move_rows.ensures
+pub returns : goal.returns
+unfolding last_round candidates
+returns c = bind_on _ _ _ (through_on _ _ _ _ _ _ (ap candidates_of c.in_ok-image.ensures)) (rw (c.without_rows.ensures, c.move_rows.ensures))

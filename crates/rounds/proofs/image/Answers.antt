@@ -1,10 +1,13 @@
 -- `rounds::image` meets its contract.
 use Rattle.limits.proofs.Answering.{exits}
-use Rattle.rounds.proofs.CodeLaws.{round_stopped, round_paid}
+use Rattle.limits.proofs.Monad.{then_stop, then_on, through_stop, through_on}
+use Rattle.rounds.specs.Round.{image}
 use Rattle.rounds.proofs.image.Goals as goal
 
 pub returns-in_err-pay : goal.returns-in_err-pay
-returns-in_err-pay c = exits c.from_residual.result c.from_residual.ensures.1 (round_stopped _ _ _ c.in_err-pay.ensures)
+unfolding image
+returns-in_err-pay c = exits c.from_residual.result c.from_residual.ensures.1 (then_stop _ _ _ (through_stop _ _ _ _ _ _ c.in_err-pay.ensures))
 
 pub returns : goal.returns
-returns c = round_paid _ _ _ c.in_ok-pay.ensures c.produce.ensures
+unfolding image
+returns c = then_on _ _ _ (through_on _ _ _ _ _ _ c.in_ok-pay.ensures) c.produce.ensures

@@ -1,6 +1,8 @@
 -- `rounds::join_owned` meets its contract.
-use Rattle.rounds.proofs.CodeLaws.{owned}
+use Rattle.rounds.specs.Round.{join_owned}
+use Rattle.rounds.proofs.CodeLaws.{answered_through}
 use Rattle.rounds.proofs.join_owned.Goals as goal
 
 pub returns : goal.returns
-returns c = owned _ _ _ _ _ _ _ c.join_into-joined.ensures c.entries_of.ensures c.release.ensures
+unfolding join_owned
+returns c = rw (c.release.ensures, c.entries_of.ensures) (answered_through _ _ _ _ _ _ c.join_into-joined.ensures)

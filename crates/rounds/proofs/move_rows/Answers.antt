@@ -1,13 +1,13 @@
 -- `rounds::move_rows` meets its contract.
-use native.Mathlib.Omega.{arith}
-use Rattle.rounds.proofs.CodeLaws.{moved_none, moved_more, moved_all}
+use native.Mathlib.Numerals.{add-one}
+use mathlib.Core.Path.{refl}
+use Rattle.rounds.specs.Round.{moved}
 use Rattle.rounds.proofs.move_rows.Goals as goal
 
 pub loop-i-init : goal.loop-i-init
-loop-i-init c = moved_none _ _
+unfolding moved
+loop-i-init c = refl
 
 pub loop-i-preserved : goal.loop-i-preserved
-loop-i-preserved c = moved_more _ _ _ c.loop-i.invariant c.abstract_at.ensures c.put_abstract.ensures
-
-pub returns : goal.returns
-returns c = moved_all _ _ c.loop-i.invariant (omega arith)
+unfolding moved
+loop-i-preserved c = rw (c.put_abstract.ensures, c.abstract_at.ensures, add-one c.loop-i.i, c.loop-i.invariant)
