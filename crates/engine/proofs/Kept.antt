@@ -1,4 +1,4 @@
--- What the start of a run and its ascent keep: the limits; and at most two thresholds are new.
+-- What the start of a run keeps: the limits; and at most two thresholds are new.
 use Prim.Native.Nat.{ℕ, zero, suc, ◌+◌, ◌-◌, ◌≤◌}
 use native.Mathlib.Omega.{arith}
 use mathlib.Core.Path.{◌≡◌, refl, sym, subst, ◌∙◌}
@@ -81,28 +81,5 @@ module _ (seeds : List ℕ) (n : ℕ) (s : Beginning) where
     begun_keeps : Enters 2 s.entry t.entry
     begun_keeps = where_going (subst (Ends (λ _ u. Enters 2 s.entry u.entry) (λ _ _. Unit {0})) (sym h) begin_keeps)
 
-    pub begin_limits : t.entry.budget.limits ≡ s.entry.budget.limits
-    begin_limits = begun_keeps.0
-
     pub begin_grown : t.entry.count ≤ s.entry.count + 2
     begin_grown = begun_keeps.1
-
--- ---- the ascent
-
-module _ (g : Given) (thresholds : List ℤ) where
-  passes_keep : (n : ℕ) (s : Ascent) → Ends (λ _ t. t.budget.limits ≡ s.budget.limits) (λ _ _. Unit {0}) (passes g thresholds n s)
-  unfolding passes
-  passes_keep zero s = ends_pure tt s refl
-  passes_keep (suc n) s =
-      ends_bind (pass g thresholds) (λ changed. cond changed (passes g thresholds n) (pure tt)) s (pass_ends g thresholds s) (λ changed t h. go changed t h.limits (passes_keep n t)) (λ _ _ _. tt)
-    where
-      go : (changed : Bool) (t : Ascent) → t.budget.limits ≡ s.budget.limits → Ends (λ _ u. u.budget.limits ≡ t.budget.limits) (λ _ _. Unit {0}) (passes g thresholds n t) →
-          Ends (λ _ u. u.budget.limits ≡ s.budget.limits) (λ _ _. Unit {0}) (cond changed (passes g thresholds n) (pure tt) t)
-      go true t h k = ends_as k (λ _ u i. i ∙ h) (λ _ _ _. tt)
-      go false t h k = ends_pure tt t h
-
-  pub ascend_limits : (s : Ascent) {t : Ascent} → going tt t ≡ ascend g thresholds s → t.budget.limits ≡ s.budget.limits
-  unfolding ascend
-  ascend_limits s h =
-      where_going
-      (subst (Ends (λ _ u. u.budget.limits ≡ s.budget.limits) (λ _ _. Unit {0})) (sym h) (passes_keep (suc (s.budget.limits.rounds - s.budget.statistics.rounds)) s))

@@ -11,6 +11,7 @@ use Rattle.limits.specs.declared.Stop.{Stop}
 use Rattle.limits.specs.Metered.{Run, going, stopped, Metered, answered, ◌>>=◌, fold_m, on_stop, finally, zoom, mapped, through}
 use Rattle.limits.specs.declared.Meter.{Meter}
 use Rattle.limits.specs.Meter.{released}
+use Rattle.limits.proofs.Answering.{answered_through}
 use Rattle.limits.proofs.Monad.{bind_stop, bind_on, through_stop, through_on}
 use Rattle.limits.proofs.Onward.{Onward, onward_begins, onward_ends, bind_stops, bind_goes}
 use Rattle.lattice.specs.Value.{Value}
@@ -23,31 +24,6 @@ use Rattle.evaluation.specs.Evaluation.{Input, Values, both}
 use Rattle.evaluation.specs.Operands.{operand, sees_both}
 use Rattle.guards.specs.Guards.{Local, local, paying, fewer, dropping, with_both, compared, member, operands, guard_one}
 use Rattle.guards.specs.Operands.{bare}
-
--- ---- a step whose end the code looks for: f is done where it is stopped, or on every way out
-
-module _ {E S A : Type 0} (f : S → S) (m : Metered E S A) (at s : S) where
-  pub halted : (x : Result A E) → is_err x ≡ true → answered x s ≡ m at → answered x (f s) ≡ on_stop f m at
-  unfolding through mapped
-  halted (Ok a) e h = let z : ◌≡◌ {A = ℕ} 0 1 = cc in absurd (omega arith)
-  halted (Err x) e h = rw (← h)
-
-  pub passed : (x : Result A E) → is_err x ≡ false → answered x s ≡ m at → answered x s ≡ on_stop f m at
-  unfolding through mapped
-  passed (Ok a) e h = rw (← h)
-  passed (Err x) e h = let z : ◌≡◌ {A = ℕ} 0 1 = cc in absurd (omega arith)
-
-  pub ended : (x : Result A E) → answered x s ≡ m at → answered x (f s) ≡ finally f m at
-  unfolding through mapped
-  ended (Ok a) h = rw (← h)
-  ended (Err x) h = rw (← h)
-
--- a step on a part of the state
-module _ {E S T A : Type 0} (get : S → T) (put : T → S → S) (m : Metered E T A) (at : S) (t : T) where
-  pub zoomed : (x : Result A E) → answered x t ≡ m (get at) → answered x (put t at) ≡ zoom get put m at
-  unfolding through mapped
-  zoomed (Ok a) h = rw (← h)
-  zoomed (Err x) h = rw (← h)
 
 -- ---- a step for each item of a run
 
@@ -103,8 +79,8 @@ module _ (i : Input) (n : ℕ) (m : Meter) (p r : List ℕ) where
             let e : going y t ≡ values m = cc in
             rw d
             (bind_on (paying values) _ _ (through_on _ _ _ _ values (local m p r) e)
-            (ended (fewer (entries_of y.first)) (dropping y.second (f y.first y.second)) (local t p r) _ x
-            (ended (fewer (entries_of y.second)) (f y.first y.second) (local t p r) (local t' p' r') x (rw (d, asks y.first y.second) at k))))
+            (answered_through (λ s. s) (λ _ s. fewer (entries_of y.first) s) (dropping y.second (f y.first y.second)) (local t p r) x _
+            (answered_through (λ s. s) (λ _ s. fewer (entries_of y.second) s) (f y.first y.second) (local t p r) x (local t' p' r') (rw (d, asks y.first y.second) at k))))
 
   pub one_stopped : (g : Guard) {e : Stop} {t : Meter} → stopped e t ≡ sees_both (both i p (refinements_of r n) (operands g).0 (operands g).1 m) →
       stopped e (local t p r) ≡ guard_one i n g (local m p r)

@@ -28,55 +28,12 @@ use Rattle.passes.specs.declared.Grown as code
 use Rattle.passes.specs.Step.{Grown, grown, within, compared, widen_value, grow, Steps, steps, counting, step, holding_next, advance}
 use Rattle.passes.specs.Lent.{grown_in}
 
--- ---- a new value compared with the old one, in hand while that is done
+-- ---- what is done while a value is in hand
 
 module _ {A : Type 0} (v : Value) (c : Metered Stop Meter A) (m : Meter) {n : ℕ} (p : n ≡ entries_of v) (x : Result A Stop) (t : Meter) (h : answered x t ≡ c m)
     (r : Result A Stop) (u : Meter) (k : answered r u ≡ held_through n x t) where
   pub held : answered r u ≡ holding (entries_of v) c m
   held = rw (← p) (k ∙ held_is n c m x t h)
-
-module _ (old v : Value) (g : Growth) (m : Meter) {r : Result Bool Stop} {u : Meter} (h : answered r u ≡ holding (entries_of v) (same old v) m) where
-  pub compare_stopped : {e : Stop} → r ≡ Err e → stopped e u ≡ compared old v g m
-  unfolding compared
-  compare_stopped q = bind_stop (holding (entries_of v) (same old v)) m (λ s. pure (grown v g (not s))) (broke h q)
-
-  pub compare_on : {s : Bool} → r ≡ Ok s → going (grown v g (not s)) u ≡ compared old v g m
-  unfolding compared
-  compare_on q = bind_on (holding (entries_of v) (same old v)) m (λ s. pure (grown v g (not s))) (went h q) (pure_is _ _)
-
--- ---- a joined value widened
-
-abbrev onward : Value → Value → Wide → Metered Stop Meter Grown
-onward old v w = compared old (within w.interval v) w.growth
-
-module _ (thresholds : List ℤ) (old v : Value) (g : Growth) (m : Meter) {r : Result Wide Stop} (u : Meter)
-    (h : answered r u ≡ holding (entries_of v) (widen thresholds old.bound.interval v.bound.interval g) m) where
-  pub widen_stopped : {e : Stop} → r ≡ Err e → stopped e u ≡ widen_value thresholds old v g m
-  unfolding widen_value
-  widen_stopped q = bind_stop (holding (entries_of v) (widen thresholds old.bound.interval v.bound.interval g)) m (onward old v) (broke h q)
-
-  pub widen_on : {w : Wide} {new : Value} {y : Run Stop Meter Grown} → r ≡ Ok w → new ≡ within w.interval v → y ≡ compared old new w.growth u → y ≡ widen_value thresholds old v g m
-  unfolding widen_value
-  widen_on q p k = bind_on (holding (entries_of v) (widen thresholds old.bound.interval v.bound.interval g)) m (onward old v) (went h q) (rw (← p) k)
-
--- ---- one argument
-
-module _ (width : ℕ) (thresholds : List ℤ) (old candidate : Value) (g : Growth) (m : Meter) where
-  abbrev joining : Metered Stop Meter Grown
-  joining = join width old candidate >>= (λ v. widen_value thresholds old v g)
-
-  pub grow_unpaid : {e : Stop} {t : Meter} → stopped e t ≡ work 1 m → stopped e t ≡ grow width thresholds old candidate g m
-  unfolding grow
-  grow_unpaid h = then_stop (work 1) m joining h
-
-  module _ {t : Meter} (h : going tt t ≡ work 1 m) where
-    pub grow_unjoined : {e : Stop} {u : Meter} → stopped e u ≡ join width old candidate t → stopped e u ≡ grow width thresholds old candidate g m
-    unfolding grow
-    grow_unjoined k = then_on (work 1) m joining h (bind_stop (join width old candidate) t (λ v. widen_value thresholds old v g) k)
-
-    pub grow_on : {v : Value} {u : Meter} {y : Run Stop Meter Grown} → going v u ≡ join width old candidate t → y ≡ widen_value thresholds old v g u → y ≡ grow width thresholds old candidate g m
-    unfolding grow
-    grow_on k l = then_on (work 1) m joining h (bind_on (join width old candidate) t (λ v. widen_value thresholds old v g) k l)
 
 -- ---- a lost list
 

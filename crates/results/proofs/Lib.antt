@@ -1,4 +1,3 @@
 pub mod CodeLaws
-pub mod Limits
 pub mod Ended
 pub mod Steady

@@ -10,7 +10,7 @@ use Rattle.limits.specs.declared.Budget.{Budget}
 use Rattle.limits.specs.declared.Meter.{Meter}
 use Rattle.limits.specs.Metered.{Run, going, stopped, answered, Metered, ◌>>◌, mapped, through, zoom, on_stop}
 use Rattle.limits.specs.Meter.{meter_of, with_meter}
-use Rattle.limits.proofs.Answering.{went, broke}
+use Rattle.limits.proofs.Answering.{went, broke, answered_through}
 use Rattle.limits.proofs.Onward.{Onward, onward_begins, onward_ends, then_stops, then_goes}
 use Rattle.rules.specs.Read.{context_at}
 use Rattle.store.specs.Store.{Context}
@@ -18,36 +18,8 @@ use Rattle.slots.specs.Slots.{Slots, slots}
 use Rattle.rounds.specs.Round.{Standing, standing, in_table, entering, each_rule}
 use Rattle.rounds.specs.Lent.{in_budget}
 
--- ---- what a step answers on a part of the state: for `finally` and `zoom`
+-- ---- a table in a budget, in a state that has both among other things
 
-module _ {S T A : Type 0} (get : S → T) (kept : S → T → S) (m : Metered Stop T A) (s : S) where
-  pub answered_through : (r : Result A Stop) (t : T) → answered r t ≡ m (get s) → answered r (kept s t) ≡ through get kept kept (λ e. e) m s
-  unfolding through mapped
-  answered_through r t h = rw (← h) (go r)
-    where
-      go : (r : Result A Stop) → answered r (kept s t) ≡ mapped (kept s) (kept s) (λ e. e) (answered r t)
-      go (Ok a) = refl
-      go (Err e) = refl
-
--- and what a stop changes besides
-module _ {S A : Type 0} (f : S → S) (m : Metered Stop S A) (s : S) (r : Result A Stop) (t : S) (h : answered r t ≡ m s) where
-  pub answered_lost : is_err r ≡ true → answered r (f t) ≡ on_stop f m s
-  unfolding through mapped
-  answered_lost e = rw (← h) (go r e)
-    where
-      go : (r : Result A Stop) → is_err r ≡ true → answered r (f t) ≡ mapped (λ t. t) f (λ e. e) (answered r t)
-      go (Ok a) e = cc
-      go (Err x) e = refl
-
-  pub answered_kept : is_err r ≡ false → answered r t ≡ on_stop f m s
-  unfolding through mapped
-  answered_kept e = rw (← h) (go r e)
-    where
-      go : (r : Result A Stop) → is_err r ≡ false → answered r t ≡ mapped (λ t. t) f (λ e. e) (answered r t)
-      go (Ok a) e = refl
-      go (Err x) e = cc
-
--- and in a state with a budget and a table, among other things
 module _ {S : Type 0} (budget_of : S → Budget) (rows_of : S → List ℕ) (put : Budget → List ℕ → S → S) (m : Metered Stop Slots (Unit {0})) (s : S) where
   pub answered_budget : (r : Result (Unit {0}) Stop) (b : Budget) (rows : List ℕ) → answered r (b, rows) ≡ in_budget m (budget_of s, rows_of s) →
       answered r (put b rows s) ≡ zoom (λ t. slots (meter_of (budget_of t)) (rows_of t)) (λ u t. put (with_meter u.meter (budget_of t)) u.rows t) m s

@@ -12,6 +12,7 @@ use Rattle.limits.specs.Metered.{Run, going, stopped, Metered, answered, ◌>>=�
 use Rattle.limits.specs.declared.Meter.{Meter}
 use Rattle.limits.specs.Meter.{work, released, with_entries}
 use Rattle.limits.proofs.Onward.{Onward, onward_begins, onward_ends, bind_stops, bind_goes, then_stops, then_goes}
+use Rattle.limits.proofs.Answering.{answered_through}
 use Rattle.limits.proofs.Monad.{then_stop, then_on, through_on, through_stop, pure_is}
 use Rattle.lattice.specs.Value.{Value}
 use Rattle.lattice.specs.Lattice.{top, copied}
@@ -54,12 +55,8 @@ replaced_on slot f m rows a h k = k ∙ ap (settled slot (value_at rows slot) ro
 
 pub owned : (constants : List ℕ) (slot : ℕ) (v : Value) (s : Slots) (r : Result (Unit {0}) Stop) (t : Meter) (rows : List ℕ) {left : Meter} {n : ℕ} →
     answered r (slots t rows) ≡ meet_into constants slot v s → n ≡ entries_of v → left ≡ released n t → answered r (slots left rows) ≡ meet_owned constants slot v s
-unfolding meet_owned through mapped
-owned constants slot v s r t rows h live q = rw (q, live, ← h) (go r)
-  where
-    go : (r : Result (Unit {0}) Stop) → answered r (slots (released (entries_of v) t) rows) ≡ mapped (fewer (entries_of v)) (fewer (entries_of v)) (λ e. e) (answered r (slots t rows))
-    go (Ok a) = refl
-    go (Err e) = refl
+unfolding meet_owned
+owned constants slot v s r t rows h live q = rw (q, live) (answered_through (λ u. u) (λ _ u. fewer (entries_of v) u) (meet_into constants slot v) s r (slots t rows) h)
 
 -- ---- a unit of work, and then the step
 

@@ -1,23 +1,13 @@
 -- `engine::ascend_and_end` meets its contract.
-use Rattle.limits.proofs.Answering.{exits}
-use Rattle.rounds.specs.Lent.{given_in}
-use Rattle.passes.specs.Pass.{ascent}
-use Rattle.results.specs.Result.{ending}
-use Rattle.engine.proofs.CodeLaws.{ascent_stopped, ascent_done}
+use Rattle.limits.proofs.Answering.{exits, answered_through}
+use Rattle.limits.proofs.Monad.{then_stop, then_on, through_stop, through_on}
+use Rattle.engine.specs.Run.{ascend_and_end}
 use Rattle.engine.proofs.ascend_and_end.Goals as goal
 
 pub returns-in_err-ascend : goal.returns-in_err-ascend
-returns-in_err-ascend c =
-    let a = c.args in
-    let u = c.ascend.new in
-    exits c.from_residual.result c.from_residual.ensures.1
-    (ascent_stopped (given_in a.given.now) a.thresholds.now a.course.now.budget a.course.now.context a.current.now a.growth.now a.bounds.now (ascent u.course.budget u.course.context u.current u.growth) c.ascend.ensures
-    c.in_err-ascend.was)
+unfolding ascend_and_end
+returns-in_err-ascend c = exits _ c.from_residual.ensures.1 (then_stop _ _ _ (through_stop _ _ _ _ _ _ c.in_err-ascend.ensures))
 
 pub returns : goal.returns
-returns c =
-    let a = c.args in
-    let u = c.ascend.new in
-    let v = c.last.new in
-    ascent_done (given_in a.given.now) a.thresholds.now a.course.now.budget a.course.now.context a.current.now a.growth.now a.bounds.now (ascent u.course.budget u.course.context u.current u.growth) c.ascend.ensures
-    c.in_ok-ascend.was c.last.result (ending v.course.budget v.course.context v.current v.bounds) c.last.ensures
+unfolding ascend_and_end
+returns c = then_on _ _ _ (through_on _ _ _ _ _ _ c.in_ok-ascend.ensures) (answered_through _ _ _ _ _ _ c.last.ensures)

@@ -1,17 +1,15 @@
 -- `engine::finish` meets its contract.
-use Rattle.rounds.specs.Lent.{given_in}
-use Rattle.rounds.specs.Round.{standing}
-use Rattle.engine.proofs.CodeLaws.{finish_none, finish_some}
+use borrow.Author.Tests.{eq-eqb, ne_eqb}
+use Rattle.limits.proofs.Answering.{answered_through}
+use Rattle.limits.proofs.Monad.{yes_on, no_on}
+use Rattle.results.specs.Result.{closing}
+use Rattle.engine.specs.Run.{finish}
 use Rattle.engine.proofs.finish.Goals as goal
 
 pub returns-then-given-eq0 : goal.returns-then-given-eq0
-returns-then-given-eq0 c =
-    let a = c.args in
-    let u = c.close.new in
-    finish_none (given_in a.given.now) a.thresholds.now a.course.now.budget a.course.now.context a.current.now a.growth.now a.bounds.now c.close.result (standing u.course.budget u.course.context u.bounds) c.if-given-eq0.true
-    c.close.ensures
+unfolding finish closing
+returns-then-given-eq0 c = yes_on _ _ _ (eq-eqb _ 0 c.if-given-eq0.true) (answered_through _ _ _ _ _ _ (answered_through _ _ _ _ _ _ c.close.ensures))
 
 pub returns : goal.returns
-returns c =
-    let a = c.args in
-    finish_some (given_in a.given.now) a.thresholds.now a.course.now.budget a.course.now.context a.current.now a.growth.now a.bounds.now c.if-given-eq0.false c.ascend_and_end.ensures
+unfolding finish
+returns c = no_on _ _ _ (ne_eqb _ 0 c.if-given-eq0.false) c.ascend_and_end.ensures

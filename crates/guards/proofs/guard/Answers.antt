@@ -1,10 +1,9 @@
 -- `guards::guard` meets its contract.
 use mathlib.Core.Path.{sym}
-use Rattle.limits.proofs.Answering.{exits}
+use Rattle.limits.proofs.Answering.{exits, answered_through, answered_lost, answered_kept}
 use Rattle.limits.proofs.Monad.{then_stop, then_on, through_stop, through_on}
 use Rattle.slots.specs.Slots.{copies}
 use Rattle.guards.specs.Guards.{guard_all, guard}
-use Rattle.guards.proofs.CodeLaws.{halted, passed}
 use Rattle.guards.proofs.guard.Goals as goal
 
 pub returns-in_err-copy_rows : goal.returns-in_err-copy_rows
@@ -17,11 +16,11 @@ unfolding guard
 returns-then-is_err c =
     rw (← c.slots_at-count.ensures, c.drop_rows.ensures)
     (then_on _ _ _ (through_on _ _ _ _ (copies _ _ _) _ c.in_ok-copy_rows.ensures)
-    (halted _ (guard_all _ _) _ _ _ (sym c.if-is_err.ensures.value) c.guard_rows-guarded.ensures))
+    (answered_lost _ (guard_all _ _) _ _ _ c.guard_rows-guarded.ensures (sym c.if-is_err.ensures.value)))
 
 pub returns-else-is_err : goal.returns-else-is_err
 unfolding guard
 returns-else-is_err c =
     rw (← c.slots_at-count.ensures)
     (then_on _ _ _ (through_on _ _ _ _ (copies _ _ _) _ c.in_ok-copy_rows.ensures)
-    (passed _ (guard_all _ _) _ _ _ (sym c.if-is_err.ensures.value) c.guard_rows-guarded.ensures))
+    (answered_kept _ (guard_all _ _) _ _ _ c.guard_rows-guarded.ensures (sym c.if-is_err.ensures.value)))

@@ -1,6 +1,4 @@
 -- `passes::ascend` meets its contract.
-use mathlib.Core.Path.{◌≡◌}
-use lib.ListN.{length}
 use Rattle.rounds.specs.Lent.{given_in}
 use Rattle.passes.specs.Pass.{ascent}
 use Rattle.passes.proofs.Rounds.{left}
@@ -9,7 +7,7 @@ use Rattle.passes.proofs.ascend.Given as goal
 
 abbrev pub invariant-loop : goal.invariant-loop
 invariant-loop l =
-    (length l.current ≡ length l.fn.current) × ((length l.growth ≡ length l.fn.growth) × Ascending (given_in l.given) l.thresholds (ascent l.fn.course.budget l.fn.course.context l.fn.current l.fn.growth) (ascent l.course.budget l.course.context l.current l.growth))
+    Ascending (given_in l.given) l.thresholds (ascent l.fn.course.budget l.fn.course.context l.fn.current l.fn.growth) (ascent l.course.budget l.course.context l.current l.growth)
 
 abbrev pub decreases-loop : goal.decreases-loop
 decreases-loop l = left l.course.budget

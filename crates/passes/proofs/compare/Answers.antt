@@ -1,20 +1,19 @@
 -- `passes::compare` meets its contract.
+use Rattle.limits.proofs.Answering.{went, broke}
+use Rattle.limits.proofs.Monad.{bind_stop, bind_on, pure_is}
 use Rattle.lists.proofs.Seen.{seen_exits}
 use Rattle.lattice.specs.Value.{value_of}
 use Rattle.lattice.specs.Lattice.{same}
-use Rattle.passes.proofs.StepLaws.{held, compare_stopped, compare_on}
+use Rattle.passes.specs.Step.{compared}
 use Rattle.passes.specs.Lent.{grown_in}
+use Rattle.passes.proofs.StepLaws.{held}
 use Rattle.passes.proofs.compare.Goals as goal
 
 pub returns-in_err-same : goal.returns-in_err-same
+unfolding compared
 returns-in_err-same c =
-    let a = c.args in
-    seen_exits grown_in c.from_residual.result c.from_residual.ensures.1
-    (compare_stopped (value_of a.old) (value_of a.value) a.growth a.meter.now
-    (held (value_of a.value) (same (value_of a.old) (value_of a.value)) a.meter.now c.entries_of.ensures _ _ c.same-same.ensures _ _ c.holding.ensures) c.in_err-same.was)
+    seen_exits grown_in _ c.from_residual.ensures.1 (bind_stop _ _ _ (broke (held (value_of c.args.value) (same _ _) _ c.entries_of.ensures _ _ c.same-same.ensures _ _ c.holding.ensures) c.in_err-same.was))
 
 pub returns : goal.returns
-returns c =
-    let a = c.args in
-    compare_on (value_of a.old) (value_of a.value) a.growth a.meter.now
-    (held (value_of a.value) (same (value_of a.old) (value_of a.value)) a.meter.now c.entries_of.ensures _ _ c.same-same.ensures _ _ c.holding.ensures) c.in_ok-same.was
+unfolding compared
+returns c = bind_on _ _ _ (went (held (value_of c.args.value) (same _ _) _ c.entries_of.ensures _ _ c.same-same.ensures _ _ c.holding.ensures) c.in_ok-same.was) (pure_is _ _)

@@ -1,25 +1,18 @@
 -- `passes::grow` meets its contract.
+use Rattle.limits.proofs.Monad.{bind_stop, bind_on, then_stop, then_on}
 use Rattle.lists.proofs.Seen.{seen_exits}
-use Rattle.lattice.specs.Value.{value_of}
-use Rattle.passes.proofs.StepLaws.{grow_unpaid, grow_unjoined, grow_on}
+use Rattle.passes.specs.Step.{grow}
 use Rattle.passes.specs.Lent.{grown_in}
 use Rattle.passes.proofs.grow.Goals as goal
 
 pub returns-in_err-work : goal.returns-in_err-work
-returns-in_err-work c =
-    let a = c.args in
-    seen_exits grown_in c.from_residual.result c.from_residual.ensures.1
-    (grow_unpaid a.width a.thresholds.now (value_of a.old) (value_of a.candidate) a.growth a.meter.now c.in_err-work.ensures)
+unfolding grow
+returns-in_err-work c = seen_exits grown_in _ c.from_residual.ensures.1 (then_stop _ _ _ c.in_err-work.ensures)
 
 pub returns-in_err-value : goal.returns-in_err-value
-returns-in_err-value c =
-    let a = c.args in
-    seen_exits grown_in c.from_residual-in_err-value.result c.from_residual-in_err-value.ensures.1
-    (grow_unjoined a.width a.thresholds.now (value_of a.old) (value_of a.candidate) a.growth a.meter.now c.in_ok-work.ensures
-    c.in_err-value.ensures)
+unfolding grow
+returns-in_err-value c = seen_exits grown_in _ c.from_residual-in_err-value.ensures.1 (then_on _ _ _ c.in_ok-work.ensures (bind_stop _ _ _ c.in_err-value.ensures))
 
 pub returns : goal.returns
-returns c =
-    let a = c.args in
-    grow_on a.width a.thresholds.now (value_of a.old) (value_of a.candidate) a.growth a.meter.now c.in_ok-work.ensures
-    c.in_ok-value.ensures c.widen_value.ensures
+unfolding grow
+returns c = then_on _ _ _ c.in_ok-work.ensures (bind_on _ _ _ c.in_ok-value.ensures c.widen_value.ensures)

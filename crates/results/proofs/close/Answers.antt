@@ -1,7 +1,6 @@
 -- `results::close` meets its contract.
-use Rattle.limits.proofs.Answering.{exits}
+use Rattle.limits.proofs.Answering.{exits, answered_through}
 use Rattle.limits.proofs.Monad.{then_stop, then_on}
-use Rattle.rounds.proofs.CodeLaws.{answered_through}
 use Rattle.results.specs.Result.{bound, close}
 use Rattle.results.proofs.close.Goals as goal
 

@@ -1,7 +1,6 @@
 -- `results::last` meets its contract.
-use Rattle.limits.proofs.Answering.{exits}
+use Rattle.limits.proofs.Answering.{exits, answered_through}
 use Rattle.limits.proofs.Monad.{then_stop, then_on, through_stop, through_on}
-use Rattle.rounds.proofs.CodeLaws.{answered_through}
 use Rattle.results.specs.Result.{closing, last}
 use Rattle.results.proofs.last.Goals as goal
 

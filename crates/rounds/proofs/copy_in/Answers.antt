@@ -1,5 +1,5 @@
 -- `rounds::copy_in` meets its contract.
-use Rattle.rounds.proofs.CodeLaws.{answered_through}
+use Rattle.limits.proofs.Answering.{answered_through}
 use Rattle.rounds.proofs.copy_in.Goals as goal
 
 pub returns : goal.returns

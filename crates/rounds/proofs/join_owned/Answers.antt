@@ -1,6 +1,6 @@
 -- `rounds::join_owned` meets its contract.
+use Rattle.limits.proofs.Answering.{answered_through}
 use Rattle.rounds.specs.Round.{join_owned}
-use Rattle.rounds.proofs.CodeLaws.{answered_through}
 use Rattle.rounds.proofs.join_owned.Goals as goal
 
 pub returns : goal.returns

@@ -1,9 +1,9 @@
 -- `rounds::produce` meets its contract.
 use mathlib.Core.Path.{sym}
-use Rattle.limits.proofs.Answering.{exits, went, broke}
+use Rattle.limits.proofs.Answering.{exits, went, broke, answered_lost, answered_kept}
 use Rattle.limits.proofs.Monad.{then_stop, then_on}
 use Rattle.rounds.specs.Round.{apply, produce}
-use Rattle.rounds.proofs.CodeLaws.{answered_table, answered_lost, answered_kept}
+use Rattle.rounds.proofs.CodeLaws.{answered_table}
 use Rattle.rounds.proofs.produce.Goals as goal
 
 pub returns-in_err-copy_in : goal.returns-in_err-copy_in

@@ -1,9 +1,8 @@
 -- `rounds::with_locals` meets its contract.
 use mathlib.Core.Path.{ap}
-use Rattle.limits.proofs.Answering.{exits}
+use Rattle.limits.proofs.Answering.{exits, answered_through}
 use Rattle.limits.proofs.Monad.{bind_stop, bind_on, through_stop, through_on}
 use Rattle.rounds.specs.Locals.{locals_of, local, with_locals}
-use Rattle.rounds.proofs.CodeLaws.{answered_through}
 use Rattle.rounds.proofs.with_locals.Goals as goal
 
 pub returns-in_err-recorded : goal.returns-in_err-recorded

@@ -1,10 +1,9 @@
 -- `transfer::rule` meets its contract.
 use mathlib.Core.Path.{sym}
-use Rattle.limits.proofs.Answering.{exits}
+use Rattle.limits.proofs.Answering.{exits, answered_through, answered_lost, answered_kept}
 use Rattle.limits.proofs.Monad.{then_stop, then_on, through_stop, through_on}
 use Rattle.bindings.specs.Bindings.{bind}
 use Rattle.guards.specs.Guards.{guard}
-use Rattle.guards.proofs.CodeLaws.{zoomed, halted, passed}
 use Rattle.transfer.specs.Transfer.{rule, guarding}
 use Rattle.transfer.proofs.rule.Goals as goal
 
@@ -17,10 +16,10 @@ unfolding rule guarding
 returns-then-is_err c =
     rw (c.drop_rows.ensures, c.slots_at.ensures)
     (then_on _ _ _ (through_on _ _ _ _ (bind _ _ _ _) _ c.in_ok-bind.ensures)
-    (halted _ (guarding _ _ _) _ _ _ (sym c.if-is_err.ensures.value) (zoomed _ _ (guard _ _ _ _) _ _ _ c.guard-guarded.ensures)))
+    (answered_lost _ (guarding _ _ _) _ _ _ (answered_through _ _ (guard _ _ _ _) _ _ _ c.guard-guarded.ensures) (sym c.if-is_err.ensures.value)))
 
 pub returns-else-is_err : goal.returns-else-is_err
 unfolding rule guarding
 returns-else-is_err c =
     then_on _ _ _ (through_on _ _ _ _ (bind _ _ _ _) _ c.in_ok-bind.ensures)
-    (passed _ (guarding _ _ _) _ _ _ (sym c.if-is_err.ensures.value) (zoomed _ _ (guard _ _ _ _) _ _ _ c.guard-guarded.ensures))
+    (answered_kept _ (guarding _ _ _) _ _ _ (answered_through _ _ (guard _ _ _ _) _ _ _ c.guard-guarded.ensures) (sym c.if-is_err.ensures.value))
