@@ -22,7 +22,7 @@ use Rattle.rules.specs.declared.Guard.TheVariants.{Compare, Membership}
 use Rattle.evaluation.specs.declared.Operand.{Operand}
 use Rattle.evaluation.specs.Evaluation.{Input, Values, both}
 use Rattle.evaluation.specs.Operands.{operand, sees_both}
-use Rattle.guards.specs.Guards.{Local, local, paying, fewer, dropping, with_both, compared, member, operands, guard_one}
+use Rattle.guards.specs.Guards.{Local, local, paying, fewer, dropping, with_both, compared, member, narrowed}
 use Rattle.guards.specs.Operands.{bare}
 
 -- ---- a step for each item of a run
@@ -57,7 +57,7 @@ module _ (i : Input) (n : ℕ) (m : Meter) (p r : List ℕ) where
     abbrev values : Metered Stop Meter Values
     values = both i p (refinements_of r n) left right
 
-    both_stop : {e : Stop} {t : Meter} → stopped e t ≡ sees_both (values m) → stopped e (local t p r) ≡ with_both i n left right f (local m p r)
+    pub both_stop : {e : Stop} {t : Meter} → stopped e t ≡ sees_both (values m) → stopped e (local t p r) ≡ with_both i n left right f (local m p r)
     unfolding with_both
     both_stop {e} {t} h = bind_stop (paying values) _ _ (through_stop _ _ _ _ values (local m p r) (go (values m) h))
       where
@@ -66,7 +66,7 @@ module _ (i : Input) (n : ℕ) (m : Meter) (p r : List ℕ) where
         go (stopped d u) h = cc
 
     -- f asks no more of the values than their bounds
-    both_done : ((u v : Value) → f (bare u.bound) (bare v.bound) ≡ f u v) → {o : Operand × Operand} {t : Meter} → going o t ≡ sees_both (values m) →
+    pub both_done : ((u v : Value) → f (bare u.bound) (bare v.bound) ≡ f u v) → {o : Operand × Operand} {t : Meter} → going o t ≡ sees_both (values m) →
         (x : Result ℕ Stop) (t' : Meter) (p' r' : List ℕ) → answered x (local t' p' r') ≡ f (bare o.0.bound) (bare o.1.bound) (local t p r) →
         answered x (local (released o.0.entries (released o.1.entries t')) p' r') ≡ with_both i n left right f (local m p r)
     unfolding with_both
@@ -82,19 +82,8 @@ module _ (i : Input) (n : ℕ) (m : Meter) (p r : List ℕ) where
             (answered_through (λ s. s) (λ _ s. fewer (entries_of y.first) s) (dropping y.second (f y.first y.second)) (local t p r) x _
             (answered_through (λ s. s) (λ _ s. fewer (entries_of y.second) s) (f y.first y.second) (local t p r) x (local t' p' r') (rw (d, asks y.first y.second) at k))))
 
-  pub one_stopped : (g : Guard) {e : Stop} {t : Meter} → stopped e t ≡ sees_both (both i p (refinements_of r n) (operands g).0 (operands g).1 m) →
-      stopped e (local t p r) ≡ guard_one i n g (local m p r)
-  one_stopped (Compare left relation right) h = both_stop left right (compared i.nodes i.constants n left relation right) h
-  one_stopped (Membership slot low high) h = both_stop low high (member i.constants n slot) h
-
-  -- what it does with both
-  abbrev narrowing : Guard → Value → Value → Metered Stop Local ℕ
-  narrowing (Compare left relation right) = compared i.nodes i.constants n left relation right
-  narrowing (Membership slot low high) = member i.constants n slot
-
-  pub one_done : (g : Guard) {o : Operand × Operand} {t : Meter} → going o t ≡ sees_both (both i p (refinements_of r n) (operands g).0 (operands g).1 m) →
-      (x : Result ℕ Stop) (t' : Meter) (p' r' : List ℕ) → answered x (local t' p' r') ≡ narrowing g (bare o.0.bound) (bare o.1.bound) (local t p r) →
-      answered x (local (released o.0.entries (released o.1.entries t')) p' r') ≡ guard_one i n g (local m p r)
-  unfolding compared member
-  one_done (Compare left relation right) h = both_done left right (compared i.nodes i.constants n left relation right) (λ u v. refl) h
-  one_done (Membership slot low high) h = both_done low high (member i.constants n slot) (λ u v. refl) h
+-- of the values no more than their bounds is asked
+pub narrowed_asks : (i : Input) (n : ℕ) (g : Guard) (u v : Value) → narrowed i n g (bare u.bound) (bare v.bound) ≡ narrowed i n g u v
+unfolding compared member
+narrowed_asks i n (Compare left relation right) u v = refl
+narrowed_asks i n (Membership slot low high) u v = refl

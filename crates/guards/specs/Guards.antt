@@ -78,14 +78,6 @@ compared nodes constants n left relation right a b =
     (refine_both nodes constants n left (restricted relation a.bound.interval b.bound.interval) right (restricted (flipped_of relation) b.bound.interval a.bound.interval))
     (pure n)
 
--- two expressions over the produced values, under what is known; f while both are live
-unfoldable pub with_both : Input → ℕ → ℕ → ℕ → (Value → Value → Metered Stop Local ℕ) → Metered Stop Local ℕ
-with_both i n left right f s =
-    (paying (both i s.produced (refinements_of s.refinements n) left right) >>= (λ p. dropping p.first (dropping p.second (f p.first p.second)))) s
-
-abbrev pub comparison : Input → ℕ → ℕ → Relation → ℕ → Metered Stop Local ℕ
-comparison i n left relation right = with_both i n left right (compared i.nodes i.constants n left relation right)
-
 -- ---- a membership guard: nothing is recorded of it
 
 -- the slot and both values have numbers alone
@@ -97,21 +89,28 @@ member constants n slot a b s =
     cond (spanning? (value_at s.produced slot) a b)
     ((in_slots (refine_into constants slot (span a.bound.interval b.bound.interval)) >> pure n) s) (pure n s)
 
-abbrev pub membership : Input → ℕ → ℕ → ℕ → ℕ → Metered Stop Local ℕ
-membership i n slot low high = with_both i n low high (member i.constants n slot)
+-- ---- a guard of either kind
 
--- ---- all guards
+-- two expressions over the produced values, under what is known; f while both are live
+unfoldable pub with_both : Input → ℕ → ℕ → ℕ → (Value → Value → Metered Stop Local ℕ) → Metered Stop Local ℕ
+with_both i n left right f s =
+    (paying (both i s.produced (refinements_of s.refinements n) left right) >>= (λ p. dropping p.first (dropping p.second (f p.first p.second)))) s
 
--- the two expressions that a guard works out
+-- the two expressions that it works out
 abbrev pub operands : Guard → ℕ × ℕ
 operands (Compare left relation right) = (left, right)
 operands (Membership slot low high) = (low, high)
 
-abbrev pub guard_one : Input → ℕ → Guard → Metered Stop Local ℕ
-guard_one i n (Compare left relation right) = comparison i n left relation right
-guard_one i n (Membership slot low high) = membership i n slot low high
+-- what it does with their values
+abbrev pub narrowed : Input → ℕ → Guard → Value → Value → Metered Stop Local ℕ
+narrowed i n (Compare left relation right) = compared i.nodes i.constants n left relation right
+narrowed i n (Membership slot low high) = member i.constants n slot
 
--- a unit of work before each
+abbrev pub guard_one : Input → ℕ → Guard → Metered Stop Local ℕ
+guard_one i n g = with_both i n (operands g).0 (operands g).1 (narrowed i n g)
+
+-- ---- all guards, a unit of work before each
+
 unfoldable pub guard_step : Input → ℕ → Guard → Metered Stop Local ℕ
 guard_step i n g = paying (work 1) >> guard_one i n g
 

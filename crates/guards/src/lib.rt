@@ -8,7 +8,7 @@ ghost use Rattle.rules.specs.Read.{slots_at, guards_at};
 ghost use Rattle.slots.specs.Slots.{slots};
 ghost use Rattle.refinements.specs.Refinement.{integer?};
 ghost use Rattle.evaluation.specs.Operands.{input_in};
-ghost use Rattle.guards.specs.Guards.{local, narrow_slot, narrow_known, refine_operand, refine_both, compared, member, narrowing?, spanning?, operands, guard_one, guard_all, guard};
+ghost use Rattle.guards.specs.Guards.{local, narrow_slot, narrow_known, refine_operand, refine_both, compared, member, narrowing?, spanning?, operands, narrowed, guard_one, guard_all, guard};
 ghost use Rattle.guards.specs.Operands.{bare};
 
 use affine::Affine;
@@ -170,6 +170,42 @@ fn operands(guard: Guard) -> (u64, u64)
     }
 }
 
+// A guard, once both its expressions are worked out.
+fn narrow(
+    produced: &mut [u32],
+    refinements: &mut [u32],
+    count: usize,
+    guard: Guard,
+    a: Bound,
+    b: Bound,
+    input: &Input,
+    meter: &mut Meter,
+) -> Result<usize, Stop>
+    ensures { answered result (local meter.new produced.new refinements.new) ≡ narrowed (input_in input.now) count guard (bare a) (bare b) (local meter.old produced.old refinements.old) }
+{
+    match guard {
+        Guard::Compare {
+            left,
+            relation,
+            right,
+        } => compare(
+            produced,
+            refinements,
+            count,
+            left,
+            relation,
+            right,
+            a,
+            b,
+            input,
+            meter,
+        ),
+        Guard::Membership { slot, .. } => {
+            member(produced, count, slot as usize, a, b, input.constants, meter)
+        }
+    }
+}
+
 // One guard. Both its expressions stay live until it has ended.
 fn guard_one(
     produced: &mut [u32],
@@ -189,36 +225,19 @@ fn guard_one(
         count,
     };
     let (a, b) = scene.both(first, second, meter)?;
-    let guarded = match guard {
-        Guard::Compare {
-            left,
-            relation,
-            right,
-        } => compare(
-            produced,
-            refinements,
-            count,
-            left,
-            relation,
-            right,
-            a.bound,
-            b.bound,
-            input,
-            meter,
-        ),
-        Guard::Membership { slot, .. } => member(
-            produced,
-            count,
-            slot as usize,
-            a.bound,
-            b.bound,
-            input.constants,
-            meter,
-        ),
-    };
+    let narrowed = narrow(
+        produced,
+        refinements,
+        count,
+        guard,
+        a.bound,
+        b.bound,
+        input,
+        meter,
+    );
     meter.release(b.entries);
     meter.release(a.entries);
-    guarded
+    narrowed
 }
 
 // All guards of a rule, one after another, a unit of work before each: how many refinements are recorded then.
