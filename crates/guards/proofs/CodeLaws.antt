@@ -1,14 +1,12 @@
--- What the code of guards answers, over plain variables: a step whose end the code looks for, a step on a part of the state, a step for each
--- item of a run, and a guard's two operands. All but the last speak of no guard.
+-- What the code of guards answers, over plain variables: a step for each item of a run, and a guard's two operands.
 use Prim.Native.Nat.{ℕ, suc, ◌+◌, ◌-◌, ◌<◌, ◌≤◌}
 use native.Mathlib.Omega.{arith}
 use mathlib.Core.Path.{◌≡◌, refl, ap}
-use mathlib.Core.Bool.{true, false}
 use mathlib.Core.List.{List}
-use Rattle.std.proofs.Common.{Result, Ok, Err, is_err}
+use Rattle.std.proofs.Common.{Result}
 use Rattle.integers.specs.Lists.{from}
 use Rattle.limits.specs.declared.Stop.{Stop}
-use Rattle.limits.specs.Metered.{Run, going, stopped, Metered, answered, ◌>>=◌, fold_m, on_stop, finally, zoom, mapped, through}
+use Rattle.limits.specs.Metered.{Run, going, stopped, Metered, answered, ◌>>=◌, fold_m}
 use Rattle.limits.specs.declared.Meter.{Meter}
 use Rattle.limits.specs.Meter.{released}
 use Rattle.limits.proofs.Answering.{answered_through}
