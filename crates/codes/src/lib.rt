@@ -1,42 +1,48 @@
-//! The codes of operators and reasons in a job: the place of each in its table. A code that a table lacks
-//! stands for its last entry: no `TryFrom`, since any word of a job, tested before or not, is read as some kind.
+//! The codes of operators and reasons in a job. A code that no kind has stands for the last one: no `TryFrom`, since any word of a job,
+//! tested before or not, is read as some kind.
 #![tactic(auto)]
+
+ghost use Rattle.std.specs.Prelude.{◌≡◌};
+ghost use Rattle.codes.specs.Codes.{unary_coded, binary_coded, reason_coded};
 
 use lattice::Widening;
 use nodes::{BinaryOp, UnaryOp};
 
-const UNARY: [UnaryOp; 2] = [UnaryOp::Negate, UnaryOp::BitwiseNot];
-
-const BINARY: [BinaryOp; 9] = [
-    BinaryOp::Add,
-    BinaryOp::Sub,
-    BinaryOp::Mul,
-    BinaryOp::Div,
-    BinaryOp::Mod,
-    BinaryOp::Pow,
-    BinaryOp::BitAnd,
-    BinaryOp::BitOr,
-    BinaryOp::BitXor,
-];
-
-const REASON: [Widening; 6] = [
-    Widening::HeadForm,
-    Widening::HeadTerm,
-    Widening::UnboundVariable,
-    Widening::SymbolSize,
-    Widening::ValueWidth,
-    Widening::Dependency,
-];
-
-pub fn unary(code: u64) -> UnaryOp {
-    UNARY[code.min(1) as usize]
+pub fn unary(code: u64) -> UnaryOp
+    ensures { result ≡ unary_coded code }
+{
+    match code {
+        0 => UnaryOp::Negate,
+        _ => UnaryOp::BitwiseNot,
+    }
 }
 
-pub fn binary(code: u64) -> BinaryOp {
-    BINARY[code.min(8) as usize]
+pub fn binary(code: u64) -> BinaryOp
+    ensures { result ≡ binary_coded code }
+{
+    match code {
+        0 => BinaryOp::Add,
+        1 => BinaryOp::Sub,
+        2 => BinaryOp::Mul,
+        3 => BinaryOp::Div,
+        4 => BinaryOp::Mod,
+        5 => BinaryOp::Pow,
+        6 => BinaryOp::BitAnd,
+        7 => BinaryOp::BitOr,
+        _ => BinaryOp::BitXor,
+    }
 }
 
 // Reasons begin with 1.
-pub fn reason(code: u64) -> Widening {
-    REASON[code.wrapping_sub(1).min(5) as usize]
+pub fn reason(code: u64) -> Widening
+    ensures { result ≡ reason_coded code }
+{
+    match code {
+        1 => Widening::HeadForm,
+        2 => Widening::HeadTerm,
+        3 => Widening::UnboundVariable,
+        4 => Widening::SymbolSize,
+        5 => Widening::ValueWidth,
+        _ => Widening::Dependency,
+    }
 }

@@ -3,7 +3,7 @@
 #![tactic(auto)]
 
 ghost use Rattle.std.specs.Prelude.{◌≡◌};
-ghost use Rattle.limits.specs.Charge.{charge_of};
+ghost use Rattle.limits.specs.Charge.{charge_of, observed};
 ghost use Rattle.limits.specs.Records.{count_of, limit_of, with_count, with_statistics, fresh};
 ghost use Rattle.limits.specs.declared.Refusal.TheVariants.{Limit};
 ghost use Rattle.limits.specs.Refusal.{resource_number, told};
@@ -166,6 +166,15 @@ impl Meter {
             self.release(held);
         }
         step
+    }
+}
+
+impl Stop {
+    // The sum that would have passed the limit.
+    pub fn observed(self) -> u128
+        ensures { result ≡ observed self }
+    {
+        u128::from(self.high) * 18446744073709551616 + u128::from(self.low)
     }
 }
 

@@ -38,7 +38,7 @@ fn put_told(line: &mut [u8], at: usize, refusal: Refusal) -> usize
         Refusal::Limit(stop) => {
             let limited = text::put_number(line, numbered, stop.limit);
             let apart = text::put_byte(line, limited, b' ');
-            text::put_wide(line, apart, stop.high, stop.low)
+            text::put_wide(line, apart, stop.observed())
         }
         _ => numbered,
     }

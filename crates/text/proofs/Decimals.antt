@@ -76,77 +76,8 @@ pub puts_more : (n : ℕ) {a b c : ℕ} {l m k : List ℕ} → 10 ≤ n →
     Puts (decimal (n / 10)) a l b m → Puts ((48 + n % 10) ∷ []) b m c k → Puts (decimal n) a l c k
 puts_more n h p q = puts_same (sym (decimal_more n h)) (puts_then p q)
 
--- ---- a tenth, one part of a number after the other
+-- ---- a number of 128 bits
 
-module _ (a b k : ℕ) where
-  -- what is left of the upper part goes before the lower one
-  carried : a * k + b ≡ 10 * (a / 10 * k) + (a % 10 * k + b)
-  carried =
-      ap (λ (n : ℕ). n * k + b) (sym (div-add-mod a 10))
-      ∙ ap (λ (n : ℕ). n + b) (add-mul (10 * (a / 10)) (a % 10) k ∙ ap (λ (n : ℕ). n + a % 10 * k) (mul_assoc 10 (a / 10) k))
-      ∙ add_assoc (10 * (a / 10 * k)) (a % 10 * k) b
-
-  carried_div : (a * k + b) / 10 ≡ a / 10 * k + (a % 10 * k + b) / 10
-  carried_div = ap (λ (n : ℕ). n / 10) carried ∙ mul-add-div {m = 10} (omega arith) (a / 10 * k) (a % 10 * k + b)
-
-  carried_mod : (a * k + b) % 10 ≡ (a % 10 * k + b) % 10
-  carried_mod = ap (λ (n : ℕ). n % 10) carried ∙ mul-add-mod_self_left 10 (a / 10 * k) (a % 10 * k + b)
-
--- the two halves of a number of 128 bits, the low one in two parts of 32 bits
-module _ (high low : ℕ) where
-  abbrev upper : ℕ
-  upper = high % 10 * 2 ^ 32 + low / 2 ^ 32
-
-  abbrev lower : ℕ
-  lower = upper % 10 * 2 ^ 32 + low % 2 ^ 32
-
-  parts : high * 2 ^ 64 + low ≡ (high * 2 ^ 32 + low / 2 ^ 32) * 2 ^ 32 + low % 2 ^ 32
-  parts = omega arith
-
-  pub upper_fits : low < 2 ^ 64 → high % 10 * 2 ^ 32 + low / 2 ^ 32 < 2 ^ 64
-  upper_fits h = omega arith
-
-  joined : (x y z : ℕ) → (x * 2 ^ 32 + y) * 2 ^ 32 + z ≡ x * 2 ^ 64 + (y * 2 ^ 32 + z)
-  joined x y z = omega arith
-
-  pub wide_tenth : high / 10 * 2 ^ 64 + (upper / 10 * 2 ^ 32 + lower / 10) ≡ (high * 2 ^ 64 + low) / 10
-  wide_tenth =
-      sym (ap (λ (n : ℕ). n / 10) parts ∙ carried_div (high * 2 ^ 32 + low / 2 ^ 32) (low % 2 ^ 32) (2 ^ 32)
-      ∙ rw (carried_div high (low / 2 ^ 32) (2 ^ 32), carried_mod high (low / 2 ^ 32) (2 ^ 32)) (joined (high / 10) (upper / 10) (lower / 10)))
-
-  pub wide_digit : lower % 10 ≡ (high * 2 ^ 64 + low) % 10
-  wide_digit =
-      sym (ap (λ (n : ℕ). n % 10) parts ∙ carried_mod (high * 2 ^ 32 + low / 2 ^ 32) (low % 2 ^ 32) (2 ^ 32)
-      ∙ rw (carried_mod high (low / 2 ^ 32) (2 ^ 32)))
-
-  wide_small : high < 2 ^ 64 → low < 2 ^ 64 → high * 2 ^ 64 + low < 2 ^ 128
-  wide_small h g = below (2 ^ 64) h g
-    where
-      below : (k : ℕ) → high < k → low < k → high * k + low < k * k
-      below k h g = omega (arith, mul-le-mul_right {m = suc high} {n = k} k h, suc-mul high k)
-
-  pub puts_low : {a b : ℕ} {l m : List ℕ} → high ≡ 0 → Puts (decimal low) a l b m → Puts (decimal (high * 2 ^ 64 + low)) a l b m
-  puts_low e p = let s : low ≡ high * 2 ^ 64 + low = omega arith in puts_same (ap decimal s) p
-
-  -- a number that is told by its tenth q and its last digit d
-  module _ {q : ℕ} (h : high ≡ 0 → ⊥) (e : q ≡ (high * 2 ^ 64 + low) / 10) where
-    wide_large : 10 ≤ high * 2 ^ 64 + low
-    wide_large = omega arith
-
-    -- the tenth is less, so that a recursion ends
-    pub wide_less : {t : ℕ} → high * 2 ^ 64 + low ≡ t → q < t
-    wide_less f = let g = wide_large in omega arith
-
-    -- the room for the last digit
-    pub wide_room : high < 2 ^ 64 → low < 2 ^ 64 → length (decimal q) + 1 ≤ 39
-    wide_room f g = room (high * 2 ^ 64 + low) wide_large (wide_small f g) e
-      where
-        room : (n : ℕ) → 10 ≤ n → n < 2 ^ 128 → q ≡ n / 10 → length (decimal q) + 1 ≤ 39
-        room n h g e = rw e (omega (arith, tenth_length n h, decimal_length_128 n g))
-
-    pub puts_wide : {d a b c : ℕ} {l m k : List ℕ} → d ≡ (high * 2 ^ 64 + low) % 10 →
-        Puts (decimal q) a l b m → Puts ((48 + d) ∷ []) b m c k → Puts (decimal (high * 2 ^ 64 + low)) a l c k
-    puts_wide f p r = puts_more (high * 2 ^ 64 + low) wide_large (rw e at p) (rw f at r)
-
-  pub digit_small : {d : ℕ} → d ≡ (high * 2 ^ 64 + low) % 10 → d < 10
-  digit_small e = omega arith
+-- the room for the last digit
+pub wide_room : (n : ℕ) → 10 ≤ n → n < 2 ^ 128 → length (decimal (n / 10)) + 1 ≤ 39
+wide_room n h g = omega (arith, tenth_length n h, decimal_length_128 n g)

@@ -10,14 +10,6 @@ ghost use Rattle.text.specs.Answers.{Puts};
 use interval::{Bound, Integrality, Interval};
 use lattice::Abstract;
 
-// A tenth of a number of 128 bits, rounded down, and the digit that is left.
-#[derive(Clone, Copy)]
-struct Tenth {
-    high: u64,
-    low: u64,
-    digit: u64,
-}
-
 pub fn put_byte(line: &mut [u8], at: usize, byte: u8) -> usize
     requires { at + 1 ≤ length line.old }
     ensures { Puts (byte ∷ []) at line.old result line.new }
@@ -46,31 +38,18 @@ pub fn put_decimal(line: &mut [u8], at: usize, n: u64) -> usize
     put_digits(line, at, n)
 }
 
-// The high half is divided first. What is left of it goes before the low half's upper 32 bits, and so on.
-fn by_ten(high: u64, low: u64) -> Tenth
-    ensures { (result.high * 2 ^ 64 + result.low ≡ (high * 2 ^ 64 + low) / 10) × (result.digit ≡ (high * 2 ^ 64 + low) % 10) }
-{
-    let upper = high % 10 * 4294967296 + low / 4294967296;
-    let lower = upper % 10 * 4294967296 + low % 4294967296;
-    Tenth {
-        high: high / 10,
-        low: upper / 10 * 4294967296 + lower / 10,
-        digit: lower % 10,
-    }
-}
-
-// A number of 128 bits, in two halves.
-pub fn put_wide(line: &mut [u8], at: usize, high: u64, low: u64) -> usize
+// A number of 128 bits: its last digit comes off until 64 bits hold the rest.
+pub fn put_wide(line: &mut [u8], at: usize, n: u128) -> usize
     requires { at + 39 ≤ length line.old }
-    ensures puts { Puts (decimal (high * 2 ^ 64 + low)) at line.old result line.new }
+    ensures puts { Puts (decimal n) at line.old result line.new }
     ensures within { result ≤ at + 39 }
 {
-    if high == 0 {
-        return put_decimal(line, at, low);
+    if n <= u128::from(u64::MAX) {
+        return put_decimal(line, at, n as u64);
     }
-    let parts = by_ten(high, low);
-    let last = put_wide(line, at, parts.high, parts.low);
-    put_byte(line, last, (48 + parts.digit) as u8)
+    let last = put_wide(line, at, n / 10);
+    let digit = n % 10;
+    put_byte(line, last, (48 + digit) as u8)
 }
 
 // A space and the decimal.
