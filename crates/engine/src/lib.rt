@@ -1,5 +1,6 @@
 //! The run (engine.rs): it begins with the seeds, passes until one changes nothing, and ends with a last round. Its own tables are arrays
-//! that it lends to its helpers; the result tables are written once, after the last thing that can be refused.
+//! that it lends to its helpers; the result tables are written once, after the last thing that can be refused. Tables that are written stay
+//! parameters, since a struct of `&mut` would have each function promise which tables its fields still are.
 #![tactic(auto)]
 
 ghost use Rattle.std.specs.Prelude.{ℕ, ℤ, List, ◌≡◌, ◌+◌, ◌≤◌, length};
@@ -136,7 +137,12 @@ fn conclude(
     match ran {
         Err(stop) => {
             rounds::without_rows(current, positions, &mut budget);
-            end(store, budget, thresholds, Phase::Stopped(stop, course.context));
+            end(
+                store,
+                budget,
+                thresholds,
+                Phase::Stopped(stop, course.context),
+            );
         }
         Ok(()) => {
             rounds::move_rows(current, arguments, positions);

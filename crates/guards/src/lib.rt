@@ -1,5 +1,6 @@
 //! The values of a rule's slots after guards (`rule` of transfer.rs from the copies on, with `refine_comparison` and `refine_operand`). What a
-//! guard finds of its operands is recorded, and narrows slots where an operand is a slot and a literal.
+//! guard finds of its operands is recorded, and narrows slots where an operand is a slot and a literal. Both tables and the count stay parameters:
+//! a struct of `&mut` would have each function promise, beside its equation, which tables its fields still are.
 #![tactic(auto)]
 
 ghost use Rattle.std.specs.Prelude.{ℕ, List, ◌≡◌};

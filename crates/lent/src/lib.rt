@@ -12,7 +12,7 @@ use limits::{Limits, Resource, Statistics, Stop};
 pub fn release(statistics: &mut Statistics, count: u64)
     ensures { After (released count) statistics.old statistics.new }
 {
-    statistics.entries = limits::release(statistics.entries, count);
+    statistics.entries = statistics.entries.saturating_sub(count);
 }
 
 // One argument more has lost its list.
@@ -31,7 +31,7 @@ pub fn charge(
 ) -> Result<(), Stop>
     ensures { answered result (budget_of limits statistics.new) ≡ charge resource amount (budget_of limits statistics.old) }
 {
-    let count = limits::add(
+    let count = limits::charge(
         resource,
         statistics.of(resource),
         amount,

@@ -235,7 +235,7 @@ impl Limits {
 }
 
 impl Statistics {
-    // The count of one resource.
+    // The count of one resource. Beside `Limits::of`, since the fields are another struct's: a trait for both would have two matches too.
     pub fn of(self, resource: Resource) -> u64
         ensures { result ≡ count_of resource self }
     {
