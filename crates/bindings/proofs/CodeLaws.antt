@@ -1,27 +1,22 @@
 -- What the code of bindings answers is what the definitions say, over plain variables.
 use Prim.Native.Nat.{ℕ}
-use native.Mathlib.Omega.{arith}
 use mathlib.Core.Path.{◌≡◌}
-use mathlib.Core.Bool.{true, false}
 use mathlib.Core.List.{List, []}
-use Rattle.std.proofs.Common.{Result, Ok, Err, is_err}
 use Rattle.limits.specs.declared.Stop.{Stop}
-use Rattle.limits.specs.Metered.{Run, going, stopped, Metered, answered, pure}
+use Rattle.limits.specs.Metered.{going, stopped, pure}
 use Rattle.limits.specs.declared.Meter.{Meter}
 use Rattle.limits.specs.Meter.{released, dropping}
-use Rattle.limits.proofs.Monad.{bind_stop, bind_on, then_stop, then_on, through_on, through_stop, pure_is}
+use Rattle.limits.proofs.Monad.{bind_stop, bind_on, pure_is}
 use Rattle.limits.proofs.CodeLaws.{drop_on}
 use Rattle.interval.specs.declared.Interval.{Interval}
 use Rattle.lattice.specs.Value.{Value}
 use Rattle.lattice.specs.Lattice.{numeric}
-use Rattle.rules.specs.declared.Binding.{Binding}
-use Rattle.slots.specs.Slots.{Slots, slots, total, holding_rows, meet_owned, each, tops, meet_argument, mark_dependent}
 use Rattle.operators.specs.Arithmetic.{span}
 use Rattle.evaluation.specs.declared.Operand.{Operand}
 use Rattle.evaluation.specs.Evaluation.{Input, Values, both}
 use Rattle.evaluation.specs.Operands.{operand, sees_both}
 use Rattle.evaluation.proofs.Operands.{seen_pair, pair_stop}
-use Rattle.bindings.specs.Bindings.{spanning, ranged, meeting, meet_binding, passes, bind}
+use Rattle.bindings.specs.Bindings.{spanning, ranged}
 
 -- ---- the value of a range binding
 

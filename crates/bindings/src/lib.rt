@@ -63,7 +63,7 @@ fn aggregate(function: AggregateFunction) -> Abstract
     }
 }
 
-// One binding of the third pass.
+// One binding of the third pass. Each arm ends by itself: out of a `match` that gives slot and value it is not known which value it is.
 fn meet_binding(
     cells: &mut [u32],
     binding: Binding,

@@ -1,5 +1,5 @@
 -- The codes of a job: the place of each operator and reason in its table. A code that a table lacks stands for its last entry.
-use Rattle.std.specs.Prelude.{ℕ, suc, zero, List, [], ◌∷◌, get_or}
+use Rattle.std.specs.Prelude.{ℕ, [], ◌∷◌, get_or}
 use Rattle.lattice.specs.declared.Widening.{Widening}
 use Rattle.lattice.specs.declared.Widening.TheVariants.{HeadForm, HeadTerm, UnboundVariable, SymbolSize, ValueWidth, Dependency}
 use Rattle.nodes.specs.declared.UnaryOp.{UnaryOp}

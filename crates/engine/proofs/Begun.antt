@@ -16,6 +16,7 @@ use Rattle.limits.specs.Budget.{work, released}
 use Rattle.limits.proofs.Ends.{Ends, completes, stops, ends_as, ends_both, ends_then, ends_through, on_then}
 use Rattle.rows.specs.Row.{row, value_at}
 use Rattle.rows.proofs.Good.{Good}
+use Rattle.store.proofs.Frame.{ending_ends}
 use Rattle.thresholds.specs.Thresholds.{Entry, entry, enter}
 use Rattle.thresholds.proofs.Outcomes.{Charging, charging_more}
 use Rattle.thresholds.proofs.Numbers.{enter_numbers}
@@ -28,10 +29,6 @@ use Rattle.rounds.proofs.Live.{Room}
 use Rattle.engine.specs.Run.{enter_ends, Start, start, charging, clearing, seeded, Beginning, beginning, in_start, begin}
 
 -- ---- thresholds
-
-ending_ends : {P Q : Entry → Type 0} (x : Run Stop Entry (Unit {0})) → Ending P Q x → Ends (λ _ t. P t) (λ _ t. Q t) x
-ending_ends (going a s) h = completes h
-ending_ends (stopped e s) h = stops h
 
 -- thresholds in order, of 32 bits, in a table of the same size
 pub record Marks (room : ℕ) (s t : Entry) : Type 0 where

@@ -1,4 +1,4 @@
--- What the code answers from the end of a run out to the call is what the definitions say, over plain variables: one law for each way out.
+-- What the code answers of the run of an open store, and out to the call, is what the definitions say, over plain variables.
 use Prim.Native.Nat.{ℕ, ◌+◌, ◌*◌, ◌≤◌, ◌<◌}
 use native.Mathlib.Omega.{arith}
 use mathlib.Core.Path.{◌≡◌, sym, ap, ◌∙◌}
@@ -72,69 +72,13 @@ module _ (r : Read) (s : Store) (before : List ℤ) (arguments slots : List ℕ)
     unfolding ran_on
     open_run f c = c ∙ ap (concluded r.seeds n marks (tables s before arguments slots)) f ∙ ap (finished r (tables s before arguments slots)) begins
 
--- ---- sizes and room
-
-module _ (nodes constants rules seeds thresholds : ℕ) where
-  pub sized_nodes : (nodes ≡ 5120 → ⊥) → false ≡ sizes nodes constants rules seeds thresholds
-  sized_nodes n = rw (ne_eqb nodes 5120 n)
-
-  module _ (a : nodes ≡ 5120) where
-    pub sized_constants : (constants ≡ 2048 → ⊥) → false ≡ sizes nodes constants rules seeds thresholds
-    sized_constants n = rw (eq-eqb nodes 5120 a, ne_eqb constants 2048 n)
-
-    module _ (b : constants ≡ 2048) where
-      pub sized_rules : (rules ≡ rule.row * 256 → ⊥) → false ≡ sizes nodes constants rules seeds thresholds
-      sized_rules n = rw (eq-eqb nodes 5120 a, eq-eqb constants 2048 b, ne_eqb rules (rule.row * 256) n)
-
-      module _ (c : rules ≡ rule.row * 256) where
-        pub sized_seeds : (seeds ≡ row * 256 → ⊥) → false ≡ sizes nodes constants rules seeds thresholds
-        sized_seeds n = rw (eq-eqb nodes 5120 a, eq-eqb constants 2048 b, eq-eqb rules (rule.row * 256) c, ne_eqb seeds (row * 256) n)
-
-        pub sized_is : seeds ≡ row * 256 → eqb thresholds 4096 ≡ sizes nodes constants rules seeds thresholds
-        sized_is d = rw (eq-eqb nodes 5120 a, eq-eqb constants 2048 b, eq-eqb rules (rule.row * 256) c, eq-eqb seeds (row * 256) d)
-
-module _ (arguments slots : ℕ) where
-  pub results_not : (arguments ≡ row * 256 → ⊥) → false ≡ result_sizes arguments slots
-  results_not n = rw (ne_eqb arguments (row * 256) n)
-
-  pub results_are : arguments ≡ row * 256 → eqb slots 32768 ≡ result_sizes arguments slots
-  results_are e = rw (eq-eqb arguments (row * 256) e)
-
-module _ (n : Counts) where
-  pub room_positions : 256 < n.positions → false ≡ spacious n
-  room_positions h = rw (lt-leb n.positions 256 h)
-
-  pub room_rules : n.positions ≤ 256 → 256 < n.rules → false ≡ spacious n
-  room_rules a h = rw (le-leb n.positions 256 a, lt-leb n.rules 256 h)
-
-  pub room_is : n.positions ≤ 256 → n.rules ≤ 256 → leb n.thresholds 4094 ≡ spacious n
-  room_is a b = rw (le-leb n.positions 256 a, le-leb n.rules 256 b)
-
 -- ---- the call
 
-module _ (r : Read) (s : Store) (marks : List ℤ) (arguments slots : List ℕ) {x : Bool} (p : x ≡ sizes (length r.nodes) (length r.constants) (length r.rules) (length r.seeds) (length marks)) where
-  pub run_sizes : x ≡ false → stopped (told Shape) (tables s marks arguments slots) ≡ run_call r (tables s marks arguments slots)
+module _ (r : Read) (s : Store) (marks : List ℤ) (arguments slots : List ℕ) {x y z f : Bool} where
+  pub run_on : {t : Tables} → x ≡ sizes (length r.nodes) (length r.constants) (length r.rules) (length r.seeds) (length marks) → x ≡ true → y ≡ result_sizes (length arguments) (length slots) → y ≡ true →
+      z ≡ admits s.phase → z ≡ true → f ≡ spacious s.counts → f ≡ true → t ≡ ran_on r (tables s marks arguments slots) → going tt t ≡ run_call r (tables s marks arguments slots)
   unfolding run_call
-  run_sizes e = rw (← p, e)
-
-  module _ (a : x ≡ true) {y : Bool} (q : y ≡ result_sizes (length arguments) (length slots)) where
-    pub run_results : y ≡ false → stopped (told Shape) (tables s marks arguments slots) ≡ run_call r (tables s marks arguments slots)
-    unfolding run_call
-    run_results e = rw (← p, a, ← q, e)
-
-    module _ (b : y ≡ true) {z : Bool} (i : z ≡ admits s.phase) where
-      pub run_closed : z ≡ false → stopped (told Closed) (tables s marks arguments slots) ≡ run_call r (tables s marks arguments slots)
-      unfolding run_call
-      run_closed e = rw (← p, a, ← q, b, ← i, e)
-
-      module _ (c : z ≡ true) {f : Bool} (j : f ≡ spacious s.counts) where
-        pub run_full : f ≡ false → stopped (told Full) (tables s marks arguments slots) ≡ run_call r (tables s marks arguments slots)
-        unfolding run_call
-        run_full e = rw (← p, a, ← q, b, ← i, c, ← j, e)
-
-        pub run_on : {t : Tables} → f ≡ true → t ≡ ran_on r (tables s marks arguments slots) → going tt t ≡ run_call r (tables s marks arguments slots)
-        unfolding run_call
-        run_on e k = rw (← p, a, ← q, b, ← i, c, ← j, e, k)
+  run_on p a q b i c j e k = rw (← p, a, ← q, b, ← i, c, ← j, e, k)
 
 -- what the tests give the run behind them
 pub run_room : (nodes constants rules seeds thresholds : ℕ) (n : Counts) {x y : Bool} → x ≡ sizes nodes constants rules seeds thresholds → x ≡ true → y ≡ spacious n → y ≡ true →

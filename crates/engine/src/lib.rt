@@ -11,7 +11,7 @@ ghost use Rattle.rows.specs.Row.{padded};
 ghost use Rattle.thresholds.specs.Thresholds.{entry};
 ghost use Rattle.rounds.specs.Lent.{given_in};
 ghost use Rattle.engine.specs.Run.{enter_ends, start, seeded, beginning, begin, progress, ascend_and_end, finish};
-ghost use Rattle.engine.specs.Call.{read, tables, sizes, result_sizes, spacious, ended_in, concluded, ran_on, run_call};
+ghost use Rattle.engine.specs.Call.{read, tables, sizes, result_sizes, spacious, given_of, ended_in, concluded, ran_on, run_call};
 
 use evaluation::Input;
 use limits::{Budget, Refusal, Resource, Stop};
@@ -107,7 +107,7 @@ fn end(store: &mut Store, budget: Budget, thresholds: usize, phase: Phase)
     store.phase = phase;
 }
 
-// The first `count` cells of a table stand in another.
+// The first `count` cells of a table stand in another, cell by cell: either table may be shorter.
 fn move_cells(from: &[u32], to: &mut [u32], count: usize)
     ensures { to.new ≡ sets to.old 0 (padded count from.now) }
 {
@@ -153,6 +153,29 @@ fn conclude(
     }
 }
 
+// What the run of a store is given. The width is that of its limits.
+fn given_of<'a>(
+    store: &Store,
+    nodes: &'a [u64],
+    constants: &'a [u32],
+    rules: &'a [u32],
+    seeds: &'a [u32],
+) -> Given<'a>
+    ensures { given_in result ≡ given_of (read nodes.now constants.now rules.now seeds.now) store.now }
+{
+    Given {
+        input: Input {
+            nodes,
+            constants,
+            width: store.budget.limits.width,
+        },
+        rules,
+        count: store.counts.rules,
+        seeds,
+        positions: store.counts.positions,
+    }
+}
+
 // The run of a store that admits it.
 fn run_open(
     store: &mut Store,
@@ -167,17 +190,7 @@ fn run_open(
     requires { (store.old.counts.rules ≤ 256) × (store.old.counts.thresholds + 2 ≤ length thresholds.old) }
     ensures { tables store.new thresholds.new arguments.new slots.new ≡ ran_on (read nodes.now constants.now rules.now seeds.now) (tables store.old thresholds.old arguments.old slots.old) }
 {
-    let given = Given {
-        input: Input {
-            nodes,
-            constants,
-            width: store.budget.limits.width,
-        },
-        rules,
-        count: store.counts.rules,
-        seeds,
-        positions: store.counts.positions,
-    };
+    let given = given_of(store, nodes, constants, rules, seeds);
     let mut course = Course {
         budget: store.budget,
         context: store.context,
@@ -188,7 +201,7 @@ fn run_open(
     let mut bounds = [0u32; results::BOUNDS];
     let begun = begin(
         seeds,
-        given.positions,
+        store.counts.positions,
         thresholds,
         &mut marks,
         &mut current,
@@ -237,7 +250,8 @@ fn has_room(counts: &Counts) -> bool
     counts.positions <= 256 && counts.rules <= 256 && counts.thresholds <= 4094
 }
 
-// The run. It closes the store, completed or stopped.
+// The run. It closes the store, completed or stopped, and charges what its rounds and its result cost. Tables of other sizes than 01's and a
+// closed store meet 1, then more rows than the tables have or thresholds without room for both ends 2.
 #[tactic(auto, unfolding(crate::specs::Call::run_call))]
 pub fn run(
     store: &mut Store,

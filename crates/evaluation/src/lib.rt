@@ -28,7 +28,8 @@ pub struct Input<'a> {
     pub width: u64,
 }
 
-// Where expressions are worked out: over the slots' values, and under the first `count` refinements.
+// Where expressions are worked out: over the slots' values, and under the first `count` refinements. The count stands beside its table, which
+// has one size whatever it holds: a slice cut to its rows would ask that they lie within it.
 #[derive(Clone, Copy)]
 pub struct Scene<'a> {
     pub input: Input<'a>,
@@ -132,6 +133,7 @@ impl<'a> Input<'a> {
     fn constant(&self, id: u64, meter: &mut Meter) -> Result<Abstract, Stop>
         ensures { answered_value result meter.new ≡ constant (id_of id) (constant_at self.now.constants.now (id_of id)) self.now.width meter.old }
     {
+        // `%`, since no `From` cuts a number and a bare cast must fit.
         let short = (id % 65536) as u16;
         let key = lattice::constant_at(self.constants, short);
         Abstract::constant(short, key, self.width, meter)
@@ -165,7 +167,7 @@ impl<'a> Input<'a> {
 
 impl Scene<'_> {
     // What is known of an expression narrows its value, once it is worked out.
-    fn narrow(&self, value: Abstract, id: u64, meter: &mut Meter) -> Result<Abstract, Stop>
+    fn restrict(&self, value: Abstract, id: u64, meter: &mut Meter) -> Result<Abstract, Stop>
         ensures { answered_value result meter.new ≡ restrict self.now.input.constants.now (known_of self.now) id (value_of value) meter.old }
     {
         // Most expressions have none, and a value is then not handed on.
@@ -183,7 +185,7 @@ impl Scene<'_> {
     }
 
     // The same of an expression with children, which has no list: its interval is all that changes.
-    fn narrow_interval(
+    fn restrict_interval(
         &self,
         interval: Interval,
         id: u64,
@@ -218,7 +220,7 @@ impl Scene<'_> {
         let paid = meter.work(1);
         meter.release(listed);
         paid?;
-        self.narrow_interval(interval, id, meter)
+        self.restrict_interval(interval, id, meter)
     }
 
     // A node with two children. Both are dropped on every way out.
@@ -239,7 +241,7 @@ impl Scene<'_> {
             .combine(op, left, right, a.bound.interval, b.bound.interval, meter);
         meter.release(b.entries);
         meter.release(a.entries);
-        self.narrow_interval(interval?, id, meter)
+        self.restrict_interval(interval?, id, meter)
     }
 
     // A slot that is narrowed, as an operand. Its ids are read only where it has a list.
@@ -289,12 +291,12 @@ impl Scene<'_> {
         match nodes::expression_at(self.input.nodes, id as usize) {
             Expression::Constant(constant) => {
                 let value = self.input.constant(constant, meter)?;
-                Ok(Operand::from(self.narrow(value, id, meter)?))
+                Ok(Operand::from(self.restrict(value, id, meter)?))
             }
             Expression::Slot(slot) => self.slot(slot as usize, id, meter),
             Expression::Unknown(integer, reason) => {
                 let value = unknown(integer, reason);
-                Ok(Operand::from(self.narrow(value, id, meter)?))
+                Ok(Operand::from(self.restrict(value, id, meter)?))
             }
             Expression::Unary(op, child) => {
                 let a = self.as_operand(child, meter)?;
@@ -306,6 +308,7 @@ impl Scene<'_> {
                 let interval = operators::absolute(a.bound.interval);
                 self.after_one(id, interval, a.entries, meter)
             }
+            // As in `both`, which in between would make the recursion mutual.
             Expression::Binary(op, left, right) => {
                 let a = self.as_operand(left, meter)?;
                 let b = self.as_operand(right, meter);
@@ -337,7 +340,7 @@ impl Scene<'_> {
                 return Ok(Abstract::numeric(seen.bound.interval));
             }
         };
-        self.narrow(value, id, meter)
+        self.restrict(value, id, meter)
     }
 
     // Two expressions: the first is live while the second is worked out.

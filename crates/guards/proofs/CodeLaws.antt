@@ -1,17 +1,15 @@
--- What the code of guards answers, over plain variables: a step for each item of a run, and a guard's two operands.
+-- What the code of guards answers of a guard's two operands, over plain variables.
 use Prim.Native.Nat.{ℕ, suc, ◌+◌, ◌-◌, ◌<◌, ◌≤◌}
 use native.Mathlib.Omega.{arith}
 use mathlib.Core.Path.{◌≡◌, refl, ap}
 use mathlib.Core.List.{List}
 use Rattle.std.proofs.Common.{Result}
-use Rattle.integers.specs.Lists.{from}
 use Rattle.limits.specs.declared.Stop.{Stop}
-use Rattle.limits.specs.Metered.{Run, going, stopped, Metered, answered, ◌>>=◌, fold_m}
+use Rattle.limits.specs.Metered.{Run, going, stopped, Metered, answered, ◌>>=◌}
 use Rattle.limits.specs.declared.Meter.{Meter}
 use Rattle.limits.specs.Meter.{released}
 use Rattle.limits.proofs.Answering.{answered_through}
 use Rattle.limits.proofs.Monad.{bind_stop, bind_on, through_stop, through_on}
-use Rattle.limits.proofs.Onward.{Onward, onward_begins, onward_ends, bind_stops, bind_goes}
 use Rattle.lattice.specs.Value.{Value}
 use Rattle.rows.specs.Row.{entries_of}
 use Rattle.refinements.specs.Refinement.{refinements_of}
@@ -22,31 +20,6 @@ use Rattle.evaluation.specs.Evaluation.{Input, Values, both}
 use Rattle.evaluation.specs.Operands.{operand, sees_both}
 use Rattle.guards.specs.Guards.{Local, local, paying, fewer, dropping, with_both, compared, member, narrowed}
 use Rattle.guards.specs.Operands.{bare}
-
--- ---- a step for each item of a run
-
-module _ {E S A B : Type 0} (f : B → A → Metered E S B) (g : ℕ → A) (count : ℕ) (first : B) (at : S) where
-  abbrev pub Folding : ℕ → B → S → Type 0
-  Folding j b s = Onward (fold_m f first (from g 0 count)) at (fold_m f b (from g j (count - j))) s
-
-  pub folding : Folding 0 first at
-  folding = let e : count ≡ count - 0 = omega arith in onward_begins at (ap (λ (n : ℕ). fold_m f first (from g 0 n)) e)
-
-  module _ {j : ℕ} (b : B) {s : S} (h : Folding j b s) where
-    pub folded : count ≤ j → going b s ≡ fold_m f first (from g 0 count) at
-    unfolding fold_m from
-    folded l = let e : count - j ≡ 0 = omega arith in onward_ends h (ap (λ (n : ℕ). fold_m f b (from g j n)) e)
-
-    module _ (l : j < count) {a : A} (q : a ≡ g j) where
-      next : fold_m f b (from g j (count - j)) ≡ (f b (g j) >>= (λ c. fold_m f c (from g (j + 1) (count - (j + 1)))))
-      unfolding fold_m from
-      next = let e : count - j ≡ suc (count - (j + 1)) = omega arith in ap (λ (n : ℕ). fold_m f b (from g j n)) e
-
-      pub fold_stops : {e : E} {t : S} → stopped e t ≡ f b a s → stopped e t ≡ fold_m f first (from g 0 count) at
-      fold_stops k = bind_stops h (f b a) (λ c. fold_m f c (from g (j + 1) (count - (j + 1)))) (rw q next) k
-
-      pub fold_goes : {c : B} {t : S} → going c t ≡ f b a s → Folding (j + 1) c t
-      fold_goes k = bind_goes h (f b a) (λ c. fold_m f c (from g (j + 1) (count - (j + 1)))) (rw q next) k
 
 -- ---- both operands of a guard
 

@@ -3,7 +3,6 @@ use native.Mathlib.Omega.{arith}
 use mathlib.Core.Path.{◌≡◌}
 use mathlib.Core.Bool.{cond}
 use lib.IntN.{ℤ}
-use lib.Signed.{lt_z}
 use Rattle.std.specs.Int.{int_min, int_max}
 use Rattle.integers.specs.Order.{min_z, max_z}
 use Rattle.integers.proofs.OrderLaws.{by_lt, min_is_left, min_is_right, max_is_left, max_is_right}

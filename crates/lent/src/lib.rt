@@ -1,4 +1,5 @@
-//! The thin layer that changes lent counts in place (01, "Form by location"): each function works the new count out by value, as the paper has it, and stores it.
+//! The thin layer that changes lent counts in place, which 01 names ("Form by location"): each function works the new count out by value and
+//! stores it. `Budget` has the same charges for the store and the run, which have its limits beside the counts.
 #![tactic(auto)]
 
 ghost use Rattle.std.specs.Prelude.{◌≡◌};
@@ -12,7 +13,7 @@ use limits::{Limits, Resource, Statistics, Stop};
 pub fn release(statistics: &mut Statistics, count: u64)
     ensures { After (released count) statistics.old statistics.new }
 {
-    statistics.entries = statistics.entries.saturating_sub(count);
+    statistics.entries = limits::release(statistics.entries, count);
 }
 
 // One argument more has lost its list.

@@ -1,19 +1,20 @@
 -- What the code's answers are, over plain variables: each way out of `charge`, and of the charges of a meter and of a budget.
-use Prim.Native.Nat.{ℕ, ◌+◌, ◌-◌, ◌*◌, ◌/◌, ◌%◌, ◌^◌, ◌<◌, ◌≤◌, min}
+use Prim.Native.Nat.{ℕ, ◌+◌, ◌*◌, ◌/◌, ◌%◌, ◌^◌, ◌<◌, ◌≤◌}
 use native.Mathlib.Omega.{arith}
 use mathlib.Core.Path.{◌≡◌, refl, sym, ap, ◌∙◌}
 use Rattle.std.proofs.Common.{Result, Ok, Err, is_err}
-use mathlib.Core.Bool.{Bool, true, false, cond}
+use mathlib.Core.Bool.{true, false}
 use borrow.Author.Tests.{le-leb, lt-leb}
-use lib.Dec.{leb}
 use Rattle.limits.specs.declared.Resource.{Resource}
 use Rattle.limits.specs.declared.Resource.TheVariants.{Work, ValueEntries}
 use Rattle.limits.specs.declared.Stop.{Stop}
 use Rattle.limits.specs.declared.Statistics.{Statistics}
 use Rattle.limits.specs.declared.Budget.{Budget}
-use Rattle.limits.specs.Charge.{charge_of}
-use Rattle.limits.specs.Records.{limit_of, count_of, with_count, with_widened, with_statistics}
-use Rattle.limits.specs.Metered.{Run, going, stopped, Metered, answered, mapped, through}
+use Rattle.limits.specs.Charge.{charge_of, stored, counting, units_of}
+use Rattle.limits.proofs.Answering.{answered_through}
+use Rattle.limits.proofs.Units.{units_are}
+use Rattle.limits.specs.Records.{limit_of, count_of, with_count, with_statistics}
+use Rattle.limits.specs.Metered.{going, stopped, Metered, answered, mapped, through}
 use Rattle.limits.specs.Budget.{charge}
 use Rattle.limits.specs.declared.Meter.{Meter}
 use Rattle.limits.specs.Meter.{meter, with_meter, holding, dropping}
@@ -37,18 +38,9 @@ module _ (r : Resource) (old amount limit : ℕ) where
 pub at_resource : (r : Resource) (n : ℕ) (s : Statistics) {q : Resource} → q ≡ r → with_count r n s ≡ with_count q n s
 at_resource r n s e = ap (λ (x : Resource). with_count x n s) (sym e)
 
--- ---- while entries are held
+-- ---- while entries are live that go whichever way it ends
 
 module _ {A : Type 0} (n : ℕ) (c : Metered Stop Meter A) (m : Meter) where
-  pub hold_on : {a : A} {m' : Meter} → going a m' ≡ c m → going a m' ≡ holding n c m
-  unfolding through mapped
-  hold_on h = rw (← h)
-
-  pub hold_stop : {s : Stop} {m' : Meter} → stopped s m' ≡ c m → stopped s (inner.released n m') ≡ holding n c m
-  unfolding through mapped
-  hold_stop h = rw (← h)
-
-  -- and of entries that go whichever way it ends
   pub drop_on : {a : A} {m' : Meter} → going a m' ≡ c m → going a (inner.released n m') ≡ dropping n c m
   unfolding through mapped
   drop_on h = rw (← h)
@@ -57,24 +49,28 @@ module _ {A : Type 0} (n : ℕ) (c : Metered Stop Meter A) (m : Meter) where
   unfolding through mapped
   drop_stop h = rw (← h)
 
--- ---- a meter, charged in place
+-- ---- a count of a meter, charged in place
 
-module _ (amount : ℕ) (m : Meter) where
-  pub meter_paid : {n : ℕ} → charge_of Work m.work amount m.max_work ≡ Ok n → going tt (inner.with_work n m) ≡ inner.work amount m
-  unfolding inner.work
-  meter_paid h = rw h
+module _ (amount : ℕ) (m : Meter) (r : Result (Unit {0}) Stop) (n : ℕ) where
+  pub work_done : answered r n ≡ counting Work m.max_work amount m.work → answered r (inner.with_work n m) ≡ inner.work amount m
+  unfolding inner.work through mapped
+  work_done h = answered_through (λ m. m.work) (λ m k. inner.with_work k m) (counting Work m.max_work amount) m r n h ∙ go (charge_of Work m.work amount m.max_work)
+    where
+      go : (x : Result ℕ Stop) → mapped (λ k. inner.with_work k m) (λ k. inner.with_work k m) (λ e. e) (stored m.work x) ≡ inner.charged (λ k. inner.with_work k m) m x
+      go (Ok k) = refl
+      go (Err e) = refl
 
-  pub meter_stopped : {s : Stop} → charge_of Work m.work amount m.max_work ≡ Err s → stopped s m ≡ inner.work amount m
-  unfolding inner.work
-  meter_stopped h = rw h
+  pub retain_done : answered r n ≡ counting ValueEntries m.max_entries amount m.entries → answered r (inner.with_entries n m) ≡ inner.retain amount m
+  unfolding inner.retain through mapped
+  retain_done h = answered_through (λ m. m.entries) (λ m k. inner.with_entries k m) (counting ValueEntries m.max_entries amount) m r n h ∙ go (charge_of ValueEntries m.entries amount m.max_entries)
+    where
+      go : (x : Result ℕ Stop) → mapped (λ k. inner.with_entries k m) (λ k. inner.with_entries k m) (λ e. e) (stored m.entries x) ≡ inner.charged (λ k. inner.with_entries k m) m x
+      go (Ok k) = refl
+      go (Err e) = refl
 
-  pub retain_kept : {n : ℕ} → charge_of ValueEntries m.entries amount m.max_entries ≡ Ok n → going tt (inner.with_entries n m) ≡ inner.retain amount m
-  unfolding inner.retain
-  retain_kept h = rw h
-
-  pub retain_refused : {s : Stop} → charge_of ValueEntries m.entries amount m.max_entries ≡ Err s → stopped s m ≡ inner.retain amount m
-  unfolding inner.retain
-  retain_refused h = rw h
+  pub units_done : answered r n ≡ units_of Work m.max_work amount m.work → answered r (inner.with_work n m) ≡ inner.units amount m
+  unfolding through mapped
+  units_done h = answered_through (λ m. m.work) (λ m k. inner.with_work k m) (units_of Work m.max_work amount) m r n h ∙ units_are amount m
 
 -- what a step answered, while entries are held
 module _ {A : Type 0} (held : ℕ) (m : Meter) where

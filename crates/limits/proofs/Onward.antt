@@ -1,7 +1,11 @@
 -- What is left of a computation: the whole, from where it began, is the rest from here. It is the invariant of a loop that charges.
+use Prim.Native.Nat.{ℕ, suc, ◌+◌, ◌-◌, ◌<◌, ◌≤◌}
+use native.Mathlib.Omega.{arith}
 use mathlib.Core.Path.{◌≡◌, refl, sym, ap, ◌∙◌}
 use mathlib.Core.Bool.{Bool, true, false, cond}
-use Rattle.limits.specs.Metered.{Run, going, stopped, Metered, pure, ◌>>=◌, ◌>>◌}
+use mathlib.Core.List.{List}
+use Rattle.integers.specs.Lists.{from}
+use Rattle.limits.specs.Metered.{Run, going, stopped, Metered, pure, ◌>>=◌, ◌>>◌, fold_m}
 use Rattle.limits.proofs.Monad.{bind_stop, bind_on, then_stop, then_on, pure_is}
 
 module _ {E S A : Type 0} where
@@ -45,3 +49,28 @@ module _ {E S A B : Type 0} {whole rest : Metered E S A} {s₀ s : S} (h : Onwar
 
     pub then_goes : {b : B} {t : S} → going b t ≡ m s → Onward whole s₀ n t
     then_goes k = record { is = (onward_as h e).is ∙ sym (then_on m s n k refl) }
+
+-- ---- a step for each item of a run
+
+module _ {E S A B : Type 0} (f : B → A → Metered E S B) (g : ℕ → A) (count : ℕ) (first : B) (at : S) where
+  abbrev pub Folding : ℕ → B → S → Type 0
+  Folding j b s = Onward (fold_m f first (from g 0 count)) at (fold_m f b (from g j (count - j))) s
+
+  pub folding : Folding 0 first at
+  folding = let e : count ≡ count - 0 = omega arith in onward_begins at (ap (λ (n : ℕ). fold_m f first (from g 0 n)) e)
+
+  module _ {j : ℕ} (b : B) {s : S} (h : Folding j b s) where
+    pub folded : count ≤ j → going b s ≡ fold_m f first (from g 0 count) at
+    unfolding fold_m from
+    folded l = let e : count - j ≡ 0 = omega arith in onward_ends h (ap (λ (n : ℕ). fold_m f b (from g j n)) e)
+
+    module _ (l : j < count) {a : A} (q : a ≡ g j) where
+      next : fold_m f b (from g j (count - j)) ≡ (f b (g j) >>= (λ c. fold_m f c (from g (j + 1) (count - (j + 1)))))
+      unfolding fold_m from
+      next = let e : count - j ≡ suc (count - (j + 1)) = omega arith in ap (λ (n : ℕ). fold_m f b (from g j n)) e
+
+      pub fold_stops : {e : E} {t : S} → stopped e t ≡ f b a s → stopped e t ≡ fold_m f first (from g 0 count) at
+      fold_stops k = bind_stops h (f b a) (λ c. fold_m f c (from g (j + 1) (count - (j + 1)))) (rw q next) k
+
+      pub fold_goes : {c : B} {t : S} → going c t ≡ f b a s → Folding (j + 1) c t
+      fold_goes k = bind_goes h (f b a) (λ c. fold_m f c (from g (j + 1) (count - (j + 1)))) (rw q next) k

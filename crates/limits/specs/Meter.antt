@@ -1,4 +1,4 @@
--- The part of a budget that lattice and transfer charge, work and live entries, each beside its limit. Code hands it through as plain numbers.
+-- The part of a budget that lattice and transfer charge, work and live entries, each beside its limit. The code charges it in place.
 use Rattle.std.specs.Prelude.{ℕ, zero, suc, ◌-◌, Result, Ok, Err}
 use Rattle.limits.specs.declared.Resource.TheVariants.{Work, ValueEntries}
 use Rattle.limits.specs.declared.Stop.{Stop}

@@ -2,8 +2,8 @@
 //! turned down with. Counts are charged in place, on a meter or a budget; no count ever wraps.
 #![tactic(auto)]
 
-ghost use Rattle.std.specs.Prelude.{◌≡◌};
-ghost use Rattle.limits.specs.Charge.{charge_of, observed};
+ghost use Rattle.std.specs.Prelude.{◌≡◌, ◌-◌};
+ghost use Rattle.limits.specs.Charge.{charge_of, observed, counting, units_of};
 ghost use Rattle.limits.specs.Records.{count_of, limit_of, with_count, with_statistics, fresh};
 ghost use Rattle.limits.specs.declared.Refusal.TheVariants.{Limit};
 ghost use Rattle.limits.specs.Refusal.{resource_number, told};
@@ -50,7 +50,7 @@ pub enum Resource {
     InspectedBytes,
 }
 
-// A charge that would pass its limit. The observed sum may need 65 bits: it is high * 2^64 + low.
+// A charge that would pass its limit. The observed sum may need 65 bits: it is high * 2^64 + low (01: "two 64-bit halves").
 #[derive(Clone, Copy, Debug, PartialEq, Eq)]
 pub struct Stop {
     pub resource: Resource,
@@ -116,46 +116,64 @@ pub fn charge(resource: Resource, old: u64, amount: u64, limit: u64) -> Result<u
     }
 }
 
+// A charge of one count, in place. A refused one changes nothing.
+fn charge_count(resource: Resource, count: &mut u64, amount: u64, limit: u64) -> Result<(), Stop>
+    ensures { answered result count.new ≡ counting resource limit amount count.old }
+{
+    *count = charge(resource, *count, amount, limit)?;
+    Ok(())
+}
+
+// `units` charges of one unit each, of one count. The first that is refused ends them, and those before it stay charged.
+pub fn charge_units(resource: Resource, count: &mut u64, units: u64, limit: u64) -> Result<(), Stop>
+    ensures { answered result count.new ≡ units_of resource limit units count.old }
+{
+    let room = limit.saturating_sub(*count);
+    if room < units {
+        *count += room;
+        return charge_count(resource, count, 1, limit);
+    }
+    *count += units;
+    Ok(())
+}
+
+// `count` live entries fewer. Counts that no calls make stay at 0.
+pub fn release(entries: u64, count: u64) -> u64
+    ensures { result ≡ entries - count }
+{
+    entries.saturating_sub(count)
+}
+
 impl Meter {
     // A charge of work. A refused one changes nothing.
     pub fn work(&mut self, amount: u64) -> Result<(), Stop>
         ensures { answered result self.new ≡ metered_work amount self.old }
     {
-        self.work = charge(Resource::Work, self.work, amount, self.max_work)?;
-        Ok(())
+        let limit = self.max_work;
+        charge_count(Resource::Work, &mut self.work, amount, limit)
     }
 
     // `count` charges of one unit of work each: what a search pays that looks at `count` items. The first that is refused ends them.
     pub fn units(&mut self, count: u64) -> Result<(), Stop>
         ensures { answered result self.new ≡ units count self.old }
     {
-        let room = self.max_work.saturating_sub(self.work);
-        if room < count {
-            self.work += room;
-            return self.work(1);
-        }
-        self.work += count;
-        Ok(())
+        let limit = self.max_work;
+        charge_units(Resource::Work, &mut self.work, count, limit)
     }
 
     // `count` live entries more. A refused charge changes nothing.
     pub fn retain(&mut self, count: u64) -> Result<(), Stop>
         ensures { answered result self.new ≡ retain count self.old }
     {
-        self.entries = charge(
-            Resource::ValueEntries,
-            self.entries,
-            count,
-            self.max_entries,
-        )?;
-        Ok(())
+        let limit = self.max_entries;
+        charge_count(Resource::ValueEntries, &mut self.entries, count, limit)
     }
 
     // `count` live entries fewer. Counts that no calls make stay at 0.
     pub fn release(&mut self, count: u64)
         ensures { self.new ≡ fewer count self.old }
     {
-        self.entries = self.entries.saturating_sub(count);
+        self.entries = release(self.entries, count);
     }
 
     // What a step answered while `held` entries were live, which go where it was refused.
@@ -255,35 +273,15 @@ impl Statistics {
         ensures { result ≡ with_count resource count self }
     {
         match resource {
-            Resource::Work => {
-                self.work = count;
-                self
-            }
-            Resource::Predicates => {
-                self.predicates = count;
-                self
-            }
-            Resource::Positions => {
-                self.positions = count;
-                self
-            }
-            Resource::Links => {
-                self.links = count;
-                self
-            }
-            Resource::ValueEntries => {
-                self.entries = count;
-                self
-            }
-            Resource::Rounds => {
-                self.rounds = count;
-                self
-            }
-            Resource::InspectedBytes => {
-                self.bytes = count;
-                self
-            }
+            Resource::Work => self.work = count,
+            Resource::Predicates => self.predicates = count,
+            Resource::Positions => self.positions = count,
+            Resource::Links => self.links = count,
+            Resource::ValueEntries => self.entries = count,
+            Resource::Rounds => self.rounds = count,
+            Resource::InspectedBytes => self.bytes = count,
         }
+        self
     }
 }
 
@@ -325,7 +323,7 @@ impl Budget {
     pub fn release_entries(&mut self, count: u64)
         ensures { self.new ≡ released count self.old }
     {
-        self.statistics.entries = self.statistics.entries.saturating_sub(count);
+        self.statistics.entries = release(self.statistics.entries, count);
     }
 
     // One argument more has lost its list. The count has no limit: it stays at the largest number.
@@ -335,7 +333,7 @@ impl Budget {
         self.statistics.widened = self.statistics.widened.saturating_add(1);
     }
 
-    // What lattice and transfer charge.
+    // What lattice and transfer charge. It is settled by hand: a closure between the two would have to promise what it does to lent tables.
     pub fn meter(&self) -> Meter
         ensures { result ≡ meter_of self.now }
     {

@@ -1,5 +1,6 @@
 //! One pass (the loop of `run` in engine.rs): a round, then each old value joined with its new one and widened; and passes until one
-//! changes nothing. Where a pass is stopped, the current values stay, and nothing else that it made stays live.
+//! changes nothing. Where a pass is stopped, the current values stay, and nothing else that it made stays live. Tables that are written stay
+//! parameters, as in engine. A given width is a round's; what an argument's join may keep is the budget's, which is the same in a run.
 #![tactic(auto)]
 
 ghost use Rattle.std.specs.Prelude.{◌≡◌, false};

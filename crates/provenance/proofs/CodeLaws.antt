@@ -2,11 +2,11 @@
 use Prim.Native.Nat.{ℕ, ◌+◌, ◌*◌, ◌<◌, ◌≤◌}
 use native.Mathlib.Omega.{arith}
 use native.Mathlib.Numerals.{add-one}
-use mathlib.Core.Path.{◌≡◌, sym, ap, ◌∙◌}
+use mathlib.Core.Path.{◌≡◌, ap}
 use mathlib.Core.Bool.{Bool, true, false, cond}
 use mathlib.Core.List.{List, [], ◌∷◌}
-use borrow.Author.Tests.{lt-ltb, le-ltb}
-use lib.Dec.{leb, ltb}
+use borrow.Author.Tests.{lt-ltb}
+use lib.Dec.{ltb}
 use lib.ListN.{set}
 use lib.Seq.{sets}
 use Rattle.limits.specs.declared.Stop.{Stop}
@@ -22,8 +22,7 @@ use Rattle.std.proofs.Common.{None, Some}
 use Rattle.store.specs.declared.Store.{Store}
 use Rattle.store.specs.Store.{with_budget, with_provenance}
 use Rattle.store.specs.Calls.{charged}
-use Rattle.store.proofs.CodeLaws.{charged_counts}
-use Rattle.provenance.specs.Provenance.{Records, records, paying, add_record, record_in, provenance, recordable, Room}
+use Rattle.provenance.specs.Provenance.{Records, records, paying, add_record, record_in, provenance, Room}
 
 -- ---- room
 

@@ -5,9 +5,9 @@
 ghost use Rattle.std.specs.Prelude.{◌≡◌, ◌+◌, ◌≤◌, cond, length};
 ghost use Rattle.limits.specs.Refusal.{told};
 ghost use Rattle.lattice.specs.Value.{value_of};
-ghost use Rattle.text.specs.Text.{spaced_words};
+ghost use Rattle.text.specs.Text.{line as worded, spaced_words};
 ghost use Rattle.text.specs.Answers.{Puts};
-ghost use Rattle.report.specs.Line.{told_words, done_text, stop_text, argument_text, slot_text, statistics_text, refusal_text, status_line, argument_line, slot_line, statistics_line, refusal_line, on_buffer, written};
+ghost use Rattle.report.specs.Line.{told_words, done_text, argument_text, slot_text, statistics_text, status_line, argument_line, slot_line, statistics_line, refusal_line, on_buffer, written};
 
 use interval::Bound;
 use lattice::Abstract;
@@ -54,20 +54,12 @@ fn put_done(line: &mut [u8], arguments: u64, rules: u64) -> usize
     text::put_byte(line, end, b'\n')
 }
 
-fn put_stop(line: &mut [u8], refusal: Refusal) -> usize
-    requires { 256 ≤ length line.old }
-    ensures { Puts (stop_text (told refusal)) 0 line.old result line.new }
+// A head word, and a refusal behind it.
+fn put_refused(line: &mut [u8], word: &[u8], refusal: Refusal) -> usize
+    requires { (length word.now ≤ 7) × (256 ≤ length line.old) }
+    ensures { Puts (worded word.now (told_words (told refusal))) 0 line.old result line.new }
 {
-    let at = put_word(line, b"stop");
-    let end = put_told(line, at, refusal);
-    text::put_byte(line, end, b'\n')
-}
-
-fn put_refusal(line: &mut [u8], refusal: Refusal) -> usize
-    requires { 256 ≤ length line.old }
-    ensures { Puts (refusal_text (told refusal)) 0 line.old result line.new }
-{
-    let at = put_word(line, b"refused");
+    let at = put_word(line, word);
     let end = put_told(line, at, refusal);
     text::put_byte(line, end, b'\n')
 }
@@ -133,11 +125,11 @@ pub fn status_line(store: &Store, line: &mut [u8]) -> Result<usize, Refusal>
             store.counts.positions as u64,
             store.counts.rules as u64,
         )),
-        Ended::Stopped(stop, _) => Ok(put_stop(line, Refusal::Limit(stop))),
+        Ended::Stopped(stop, _) => Ok(put_refused(line, b"stop", Refusal::Limit(stop))),
     }
 }
 
-// The line `a` of an argument.
+// The line `a` of an argument. A buffer of another size meets 1; then come the refusals of `numeric::argument`. Nothing is charged.
 pub fn argument_line(
     store: &Store,
     arguments: &[u32],
@@ -153,7 +145,7 @@ pub fn argument_line(
     Ok(put_argument(line, argument, value))
 }
 
-// The line `d` of a slot before guards, or `g` after them.
+// The line `d` of a slot before guards, or `g` after them. A buffer of another size meets 1; then come the refusals of `numeric::slot`.
 pub fn slot_line(
     store: &Store,
     rules: &[u32],
@@ -172,7 +164,7 @@ pub fn slot_line(
     Ok(put_slot(line, rule, slot, after, bound))
 }
 
-// The line `s`.
+// The line `s`, in any phase. A buffer of another size meets 1.
 pub fn statistics_line(store: &Store, line: &mut [u8]) -> Result<usize, Refusal>
     ensures { written result line.new ≡ on_buffer line.old (statistics_line store.now) }
 {
@@ -182,12 +174,12 @@ pub fn statistics_line(store: &Store, line: &mut [u8]) -> Result<usize, Refusal>
     Ok(put_statistics(line, store.budget.statistics))
 }
 
-// A refusal as the line of a job.
+// A refusal as the line of a job. A buffer of another size meets 1.
 pub fn refusal_line(refusal: Refusal, line: &mut [u8]) -> Result<usize, Refusal>
     ensures { written result line.new ≡ on_buffer line.old (refusal_line refusal) }
 {
     if line.len() != LINE {
         return Err(Refusal::Shape);
     }
-    Ok(put_refusal(line, refusal))
+    Ok(put_refused(line, b"refused", refusal))
 }

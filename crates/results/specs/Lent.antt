@@ -5,8 +5,9 @@ use Rattle.limits.specs.Metered.{Metered}
 use Rattle.rules.specs.Read.{slots_at}
 use Rattle.slots.specs.Slots.{Slots}
 use Rattle.rounds.specs.Locals.{Locals}
+use Rattle.rounds.specs.Round.{Given}
 use Rattle.results.specs.declared.Bounding.{Bounding}
 use Rattle.results.specs.Result.{keep_both}
 
-abbrev pub bounding : Bounding → ℕ → Locals → Metered Stop Slots (Unit {0})
-bounding t id l = keep_both l.domains l.produced (slots_at t.rules.now id) id
+abbrev pub bounding : Bounding → Given → ℕ → Locals → Metered Stop Slots (Unit {0})
+bounding t g id l = keep_both l.domains l.produced (slots_at g.rules id) id

@@ -71,23 +71,22 @@ fn keep_both(
 
 // The task of the result: the bounds of a rule's slots.
 #[derive(Clone, Copy)]
-struct Bounding<'a> {
-    rules: &'a [u32],
-}
+struct Bounding;
 
-impl Task for Bounding<'_> {
+impl Task for Bounding {
     ghost use Rattle.results.specs.Lent.{bounding};
 
     ghost does = { bounding };
 
     fn apply(
         &self,
+        given: &Given,
         id: usize,
         locals: &Locals,
         table: &mut [u32],
         meter: &mut Meter,
     ) -> Result<(), Stop> {
-        let count = rules::slots_at(self.rules, id) as usize;
+        let count = rules::slots_at(given.rules, id) as usize;
         keep_both(locals, count, id, table, meter)
     }
 }
@@ -101,8 +100,7 @@ pub fn close(
 ) -> Result<(), Stop>
     ensures { answered result (standing course.new.budget course.new.context bounds.new) ≡ close (input_in given.now.input) given.now.rules.now given.now.count given.now.positions current.now (standing course.old.budget course.old.context bounds.old) }
 {
-    let task = Bounding { rules: given.rules };
-    rounds::each_rule(&task, given, current, bounds, course)?;
+    rounds::each_rule(&Bounding, given, current, bounds, course)?;
     course.budget.pay(Resource::Work, given.positions as u64)
 }
 

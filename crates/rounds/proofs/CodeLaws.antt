@@ -3,12 +3,11 @@ use Prim.Native.Nat.{ℕ, suc, ◌+◌, ◌-◌, ◌≤◌, ◌<◌}
 use native.Mathlib.Omega.{arith}
 use mathlib.Core.Path.{◌≡◌, refl, ap, ◌∙◌}
 use mathlib.Core.List.{List}
-use mathlib.Core.Bool.{true, false}
-use Rattle.std.proofs.Common.{Result, Ok, Err, is_err}
+use Rattle.std.proofs.Common.{Result, Ok, Err}
 use Rattle.limits.specs.declared.Stop.{Stop}
 use Rattle.limits.specs.declared.Budget.{Budget}
 use Rattle.limits.specs.declared.Meter.{Meter}
-use Rattle.limits.specs.Metered.{Run, going, stopped, answered, Metered, ◌>>◌, mapped, through, zoom, on_stop}
+use Rattle.limits.specs.Metered.{Run, going, stopped, answered, Metered, ◌>>◌, mapped, through, zoom}
 use Rattle.limits.specs.Meter.{meter_of, with_meter}
 use Rattle.limits.proofs.Answering.{went, broke, answered_through}
 use Rattle.limits.proofs.Onward.{Onward, onward_begins, onward_ends, then_stops, then_goes}

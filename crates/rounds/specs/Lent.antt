@@ -20,8 +20,8 @@ abbrev pub locals_in : code_locals.Locals → Locals
 locals_in l = locals l.domains.now l.produced.now l.refinements.now l.recorded
 
 -- what a round does with a rule's slots
-abbrev pub joining : Joining → ℕ → Locals → Metered Stop Slots (Unit {0})
-joining t id l = each (join_head (input_in t.input) l.produced l.refinements l.recorded) (heads_at t.rules.now id)
+abbrev pub joining : Joining → Given → ℕ → Locals → Metered Stop Slots (Unit {0})
+joining t g id l = each (join_head g.input l.produced l.refinements l.recorded) (heads_at g.rules id)
 
 -- m with the counts of a budget
 abbrev pub in_budget : {A : Type 0} → Metered Stop Slots A → Metered Stop (Budget × List ℕ) A

@@ -13,7 +13,7 @@ ghost use Rattle.lattice.specs.Lattice.{join};
 ghost use Rattle.evaluation.specs.Operands.{input_in};
 ghost use Rattle.transfer.specs.Transfer.{frame};
 ghost use Rattle.rounds.specs.Locals.{Locals, fill, with_locals};
-ghost use Rattle.rounds.specs.Round.{standing, join_owned, join_head, each_rule, produce, image, moved};
+ghost use Rattle.rounds.specs.Round.{Given, standing, join_owned, join_head, each_rule, produce, image, moved};
 ghost use Rattle.rounds.specs.Lent.{given_in, locals_in, joining, in_budget};
 
 use evaluation::Input;
@@ -29,7 +29,7 @@ pub const REFINEMENTS: usize = 256;
 // The cells of a table for the values of all arguments.
 pub const ARGUMENTS: usize = 6144;
 
-// What a run is given: what it reads, the rules that it applies, and the seeds of its arguments.
+// What a run is given: what it reads, the rules that it applies, and the seeds of its arguments. Counts stand beside tables, which have one size.
 #[derive(Clone, Copy)]
 pub struct Given<'a> {
     pub input: Input<'a>,
@@ -57,16 +57,17 @@ pub struct Locals<'a> {
 
 // What a walk over the rules does with each one's slots while they are live.
 pub trait Task {
-    ghost does: { Self → ℕ → Locals → Metered Stop Slots (Unit {0}) };
+    ghost does: { Self → Given → ℕ → Locals → Metered Stop Slots (Unit {0}) };
 
     fn apply(
         &self,
+        given: &Given,
         id: usize,
         locals: &Locals,
         table: &mut [u32],
         meter: &mut Meter,
     ) -> Result<(), Stop>
-        ensures { answered result (slots meter.new table.new) ≡ does self.now id (locals_in locals.now) (slots meter.old table.old) };
+        ensures { answered result (slots meter.new table.new) ≡ does self.now (given_in given.now) id (locals_in locals.now) (slots meter.old table.old) };
 }
 
 // Into tables that are lent: the slots of one rule, a unit of work before them.
@@ -104,7 +105,7 @@ fn with_locals<T: Task>(
     table: &mut [u32],
     meter: &mut Meter,
 ) -> Result<(), Stop>
-    ensures { answered result (slots meter.new table.new) ≡ with_locals (input_in given.now.input) given.now.rules.now id arguments.now (T.does task.now id) (slots meter.old table.old) }
+    ensures { answered result (slots meter.new table.new) ≡ with_locals (input_in given.now.input) given.now.rules.now id arguments.now (T.does task.now (given_in given.now) id) (slots meter.old table.old) }
 {
     let mut domains = [0u32; LOCALS];
     let mut produced = [0u32; LOCALS];
@@ -125,7 +126,7 @@ fn with_locals<T: Task>(
         refinements: &refinements,
         recorded,
     };
-    let done = task.apply(id, &locals, table, meter);
+    let done = task.apply(given, id, &locals, table, meter);
     let count = rules::slots_at(given.rules, id) as usize;
     slots::drop_rows(&produced, count, meter);
     slots::drop_rows(&domains, count, meter);
@@ -140,7 +141,7 @@ pub fn each_rule<T: Task>(
     table: &mut [u32],
     course: &mut Course,
 ) -> Result<(), Stop>
-    ensures { answered result (standing course.new.budget course.new.context table.new) ≡ each_rule given.now.rules.now (λ id. with_locals (input_in given.now.input) given.now.rules.now id arguments.now (T.does task.now id)) 0 given.now.count (standing course.old.budget course.old.context table.old) }
+    ensures { answered result (standing course.new.budget course.new.context table.new) ≡ each_rule given.now.rules.now (λ id. with_locals (input_in given.now.input) given.now.rules.now id arguments.now (T.does task.now (given_in given.now) id)) 0 given.now.count (standing course.old.budget course.old.context table.old) }
 {
     for id in 0..given.count {
         course.context = rules::context_at(given.rules, id);
@@ -208,26 +209,24 @@ fn join_head(
 
 // The task of a round: a rule's heads join the result, in order.
 #[derive(Clone, Copy)]
-struct Joining<'a> {
-    input: Input<'a>,
-    rules: &'a [u32],
-}
+struct Joining;
 
-impl Task for Joining<'_> {
+impl Task for Joining {
     ghost use Rattle.rounds.specs.Lent.{joining};
 
     ghost does = { joining };
 
     fn apply(
         &self,
+        given: &Given,
         id: usize,
         locals: &Locals,
         table: &mut [u32],
         meter: &mut Meter,
     ) -> Result<(), Stop> {
-        for j in 0..rules::head_count(self.rules, id) {
-            let head = rules::head_at(self.rules, id, j);
-            join_head(&self.input, locals, head, table, meter)?;
+        for j in 0..rules::head_count(given.rules, id) {
+            let head = rules::head_at(given.rules, id, j);
+            join_head(&given.input, locals, head, table, meter)?;
         }
         Ok(())
     }
@@ -252,7 +251,7 @@ pub fn copy_in(from: &[u32], to: &mut [u32], count: usize, budget: &mut Budget) 
     copied
 }
 
-// The first `count` rows of a table stand in another. Nothing is charged.
+// The first `count` rows of a table stand in another. Nothing is charged. Each is read and written anew, as cells that are no value's would be.
 pub fn move_rows(from: &[u32], to: &mut [u32], count: usize)
     ensures { to.new ≡ moved from.now count to.old }
 {
@@ -271,11 +270,7 @@ fn produce(
     ensures { answered result (standing course.new.budget course.new.context res.new) ≡ produce (given_in given.now) previous.now (standing course.old.budget course.old.context res.old) }
 {
     copy_in(given.seeds, res, given.positions, &mut course.budget)?;
-    let task = Joining {
-        input: given.input,
-        rules: given.rules,
-    };
-    let joined = each_rule(&task, given, previous, res, course);
+    let joined = each_rule(&Joining, given, previous, res, course);
     if joined.is_err() {
         without_rows(res, given.positions, &mut course.budget);
     }

@@ -372,6 +372,7 @@ pub fn head_count(cells: &[u32], id: usize) -> usize
     at_most(cells::cell_at(cells, at + 5), 16)
 }
 
+// Table and id stay two parameters here and above: a caller has an id, and a struct of the two would be made for each call.
 // The j-th binding, guard and head; one beyond its count is what stands there. Each reads its cells itself: that is one expression,
 // and a shared reader would be no plainer.
 pub fn binding_at(cells: &[u32], id: usize, j: usize) -> Binding

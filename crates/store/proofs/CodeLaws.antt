@@ -1,21 +1,19 @@
 -- What the code's answers are, over plain variables.
-use Prim.Native.Nat.{ℕ, ◌+◌, ◌-◌, ◌*◌, ◌<◌, ◌≤◌}
+use Prim.Native.Nat.{ℕ, ◌+◌, ◌*◌, ◌<◌, ◌≤◌}
 use native.Mathlib.Omega.{arith}
 use native.Mathlib.Numerals.{add-one}
 use mathlib.Core.Path.{◌≡◌, refl, sym, ap, ◌∙◌}
 use mathlib.Core.Bool.{Bool, true, false}
 use mathlib.Core.List.{List}
-use borrow.Author.Tests.{leb-true, leb-false, ltb-true, lt-ltb, le-ltb, le-leb, lt-leb, eq-eqb, ne_eqb}
+use borrow.Author.Tests.{leb-true, ltb-true, lt-ltb, eq-eqb, ne_eqb}
 use lib.Dec.{leb, ltb}
 use lib.IntN.{ℤ}
 use lib.ListN.{length, set}
-use Rattle.limits.specs.declared.Limits.{Limits}
 use Rattle.limits.specs.declared.Stop.{Stop}
 use Rattle.limits.specs.declared.Budget.{Budget}
-use Rattle.limits.specs.declared.Refusal.TheVariants.{Closed, Shape, Full, Limit, Missing}
+use Rattle.limits.specs.declared.Refusal.TheVariants.{Closed, Shape, Full, Limit}
 use Rattle.limits.specs.declared.Refusal.{Refusal}
 use Rattle.limits.specs.Refusal.{Told, told}
-use Rattle.limits.specs.Records.{fresh}
 use Rattle.limits.specs.Metered.{Run, going, stopped, Metered, pure, after, ◌>>=◌, ◌>>◌, mapped, through}
 use Rattle.limits.specs.Budget.{work, predicates, positions}
 use Rattle.limits.proofs.Monad.{then_on, then_stop, through_on, through_stop, came}
@@ -24,11 +22,9 @@ use Rattle.integers.proofs.Tests.{and_left, and_right}
 use Rattle.lattice.specs.Value.{Value}
 use Rattle.lattice.specs.Lattice.{bottom}
 use Rattle.rows.specs.Row.{row, put}
-use Rattle.std.proofs.Common.{Some}
-use Rattle.store.specs.declared.Phase.TheVariants.{Open, Absent}
 use Rattle.store.specs.declared.Store.{Store}
-use Rattle.store.specs.Store.{admits, with_budget, with_context, with_thresholds, with_predicate, empty, fresh_of}
-use Rattle.store.specs.Calls.{unless, charged, marks, entering, declared, bottoms, room_for, tables, predicate_call, context_call, work_call, first_of, arity_of, argument_call}
+use Rattle.store.specs.Store.{admits, with_budget, with_thresholds, with_predicate}
+use Rattle.store.specs.Calls.{unless, charged, marks, entering, declared, bottoms, room_for, tables, predicate_call, first_of, arity_of, argument_call}
 
 -- ---- a test that refuses
 

@@ -1,5 +1,6 @@
 //! Words of the report in bytes of ASCII, written into a line from a place on. A word is the line's own only where it fits: each function
-//! asks for the room of its longest text, and answers the place behind what it wrote, which lies within that room.
+//! asks for the room of its longest text, and answers the place behind what it wrote, which lies within that room. Line and place stay
+//! parameters: a struct of `&mut` would have each function promise, beside what it wrote, which line its field still is.
 #![tactic(auto)]
 
 ghost use Rattle.std.specs.Prelude.{◌+◌, ◌*◌, ◌/◌, ◌%◌, ◌≤◌, ◌^◌, ◌≡◌, [], ◌∷◌, length};

@@ -21,4 +21,4 @@ slice_bounds-finish-end-2 c =
 pub returns : goal.returns
 returns c =
     let a = c.args in
-    open_run (read a.nodes.now a.constants.now a.rules.now a.seeds.now) a.store.now a.thresholds.now a.arguments.now a.slots.now _ _ _ _ _ c.in_default.ensures c.finish-ran.ensures (c.conclude.ensures _ a.thresholds.now c.finish-ran.new.growth)
+    open_run (read a.nodes.now a.constants.now a.rules.now a.seeds.now) a.store.now a.thresholds.now a.arguments.now a.slots.now _ _ _ _ _ c.in_default.ensures (rw c.given_of-given.ensures at c.finish-ran.ensures) (c.conclude.ensures _ a.thresholds.now c.finish-ran.new.growth)

@@ -1,6 +1,6 @@
 -- `guards::guard` meets its contract.
 use mathlib.Core.Path.{sym}
-use Rattle.limits.proofs.Answering.{exits, answered_through, answered_lost, answered_kept}
+use Rattle.limits.proofs.Answering.{exits, answered_lost, answered_kept}
 use Rattle.limits.proofs.Monad.{then_stop, then_on, through_stop, through_on}
 use Rattle.slots.specs.Slots.{copies}
 use Rattle.guards.specs.Guards.{guard_all, guard}

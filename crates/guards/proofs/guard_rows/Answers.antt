@@ -5,7 +5,7 @@ use Rattle.limits.proofs.Answering.{exits}
 use Rattle.limits.proofs.Monad.{then_stop, then_on, through_stop, through_on}
 use Rattle.limits.specs.Meter.{work}
 use Rattle.guards.specs.Guards.{guard_step, guard_all}
-use Rattle.guards.proofs.CodeLaws.{folding, folded, fold_stops, fold_goes}
+use Rattle.limits.proofs.Onward.{folding, folded, fold_stops, fold_goes}
 use Rattle.guards.proofs.guard_rows.Goals as goal
 
 pub loop-j-init : goal.loop-j-init

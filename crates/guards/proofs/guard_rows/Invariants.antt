@@ -2,7 +2,7 @@
 use Rattle.rules.specs.Read.{guard_at}
 use Rattle.evaluation.specs.Operands.{input_in}
 use Rattle.guards.specs.Guards.{local, guard_step}
-use Rattle.guards.proofs.CodeLaws.{Folding}
+use Rattle.limits.proofs.Onward.{Folding}
 use Rattle.guards.proofs.guard_rows.Given as goal
 
 abbrev pub invariant-loop-j : goal.invariant-loop-j

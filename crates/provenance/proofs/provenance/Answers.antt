@@ -1,6 +1,6 @@
 -- `provenance::provenance` meets its contract.
 use native.Mathlib.Omega.{arith}
-use mathlib.Core.Path.{◌≡◌, ap}
+use mathlib.Core.Path.{◌≡◌}
 use Rattle.limits.specs.Budget.{links}
 use Rattle.limits.proofs.Answering.{replied_ok, replied_err, refuses}
 use Rattle.store.proofs.CodeLaws.{charged_counts}

@@ -7,4 +7,4 @@ pub returns-then-line-ne-LINE : goal.returns-then-line-ne-LINE
 returns-then-line-ne-LINE c = lined_shape c.args.line.now (refusal_line c.args.refusal) c.if-line-ne-LINE.true
 
 pub returns : goal.returns
-returns c = lined_given c.args.line.now _ c.if-line-ne-LINE.false (refusal_lined c.args.refusal) c.put_refusal.ensures
+returns c = lined_given c.args.line.now _ c.if-line-ne-LINE.false (refusal_lined c.args.refusal) c.put_refused.ensures

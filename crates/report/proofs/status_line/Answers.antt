@@ -15,4 +15,4 @@ pub returns-in-Completed : goal.returns-in-Completed
 returns-in-Completed c = lined_given c.args.line.now _ c.if-line-ne-LINE.false (status_lined c.args.store.now c.status.ensures (c.in_ok-status.was ∙ ap Ok c.in-Completed.is)) c.put_done.ensures
 
 pub returns-in-Stopped : goal.returns-in-Stopped
-returns-in-Stopped c = lined_given c.args.line.now _ c.if-line-ne-LINE.false (status_lined c.args.store.now c.status.ensures (c.in_ok-status.was ∙ ap Ok c.in-Stopped.is)) c.put_stop.ensures
+returns-in-Stopped c = lined_given c.args.line.now _ c.if-line-ne-LINE.false (status_lined c.args.store.now c.status.ensures (c.in_ok-status.was ∙ ap Ok c.in-Stopped.is)) c.put_refused.ensures

@@ -36,29 +36,29 @@ returns-in_err-value-in-Constant t c =
     exits _ c.from_residual-in_err-value-in-Constant.ensures.1
     (ap sees (after_stop _ (seen_broke value_of c.constant.ensures c.in_err-value-in-Constant.was) ∙ at_node _ _ _ _ _ (went c.work.ensures c.in_ok-work.was) c.expression_at.ensures c.in-Constant.is))
 
-pub returns-in_err-narrow-in-Constant : goal.returns-in_err-narrow-in-Constant
-returns-in_err-narrow-in-Constant t c =
-    exits _ c.from_residual-in_err-narrow-in-Constant.ensures.1
-    (ap sees (seen_broke value_of c.narrow.ensures c.in_err-narrow-in-Constant.was ∙ after_on _ (seen_went value_of c.constant.ensures c.in_ok-value-in-Constant.was) ∙ at_node _ _ _ _ _ (went c.work.ensures c.in_ok-work.was) c.expression_at.ensures c.in-Constant.is))
+pub returns-in_err-restrict-in-Constant : goal.returns-in_err-restrict-in-Constant
+returns-in_err-restrict-in-Constant t c =
+    exits _ c.from_residual-in_err-restrict-in-Constant.ensures.1
+    (ap sees (seen_broke value_of c.restrict.ensures c.in_err-restrict-in-Constant.was ∙ after_on _ (seen_went value_of c.constant.ensures c.in_ok-value-in-Constant.was) ∙ at_node _ _ _ _ _ (went c.work.ensures c.in_ok-work.was) c.expression_at.ensures c.in-Constant.is))
 
-pub returns-in_ok-narrow-in-Constant : goal.returns-in_ok-narrow-in-Constant
-returns-in_ok-narrow-in-Constant t c =
-    sees_going (value_of c.in_ok-narrow-in-Constant.field-0) c.from.ensures
-    (seen_went value_of c.narrow.ensures c.in_ok-narrow-in-Constant.was ∙ after_on _ (seen_went value_of c.constant.ensures c.in_ok-value-in-Constant.was) ∙ at_node _ _ _ _ _ (went c.work.ensures c.in_ok-work.was) c.expression_at.ensures c.in-Constant.is)
+pub returns-in_ok-restrict-in-Constant : goal.returns-in_ok-restrict-in-Constant
+returns-in_ok-restrict-in-Constant t c =
+    sees_going (value_of c.in_ok-restrict-in-Constant.field-0) c.from.ensures
+    (seen_went value_of c.restrict.ensures c.in_ok-restrict-in-Constant.was ∙ after_on _ (seen_went value_of c.constant.ensures c.in_ok-value-in-Constant.was) ∙ at_node _ _ _ _ _ (went c.work.ensures c.in_ok-work.was) c.expression_at.ensures c.in-Constant.is)
 
 pub returns-in-Slot : goal.returns-in-Slot
 returns-in-Slot t c =
     c.slot.ensures ∙ ap sees (at_node _ _ _ _ _ (went c.work.ensures c.in_ok-work.was) c.expression_at.ensures c.in-Slot.is)
 
-pub returns-in_err-narrow-in-Unknown : goal.returns-in_err-narrow-in-Unknown
-returns-in_err-narrow-in-Unknown t c =
-    exits _ c.from_residual-in_err-narrow-in-Unknown.ensures.1
-    (ap sees (seen_broke value_of c.narrow-in-Unknown.ensures c.in_err-narrow-in-Unknown.was ∙ after_pure _ c.unknown-value.ensures ∙ at_node _ _ _ _ _ (went c.work.ensures c.in_ok-work.was) c.expression_at.ensures c.in-Unknown.is))
+pub returns-in_err-restrict-in-Unknown : goal.returns-in_err-restrict-in-Unknown
+returns-in_err-restrict-in-Unknown t c =
+    exits _ c.from_residual-in_err-restrict-in-Unknown.ensures.1
+    (ap sees (seen_broke value_of c.restrict-in-Unknown.ensures c.in_err-restrict-in-Unknown.was ∙ after_pure _ c.unknown-value.ensures ∙ at_node _ _ _ _ _ (went c.work.ensures c.in_ok-work.was) c.expression_at.ensures c.in-Unknown.is))
 
-pub returns-in_ok-narrow-in-Unknown : goal.returns-in_ok-narrow-in-Unknown
-returns-in_ok-narrow-in-Unknown t c =
-    sees_going (value_of c.in_ok-narrow-in-Unknown.field-0) c.from-in-Unknown.ensures
-    (seen_went value_of c.narrow-in-Unknown.ensures c.in_ok-narrow-in-Unknown.was ∙ after_pure _ c.unknown-value.ensures ∙ at_node _ _ _ _ _ (went c.work.ensures c.in_ok-work.was) c.expression_at.ensures c.in-Unknown.is)
+pub returns-in_ok-restrict-in-Unknown : goal.returns-in_ok-restrict-in-Unknown
+returns-in_ok-restrict-in-Unknown t c =
+    sees_going (value_of c.in_ok-restrict-in-Unknown.field-0) c.from-in-Unknown.ensures
+    (seen_went value_of c.restrict-in-Unknown.ensures c.in_ok-restrict-in-Unknown.was ∙ after_pure _ c.unknown-value.ensures ∙ at_node _ _ _ _ _ (went c.work.ensures c.in_ok-work.was) c.expression_at.ensures c.in-Unknown.is)
 
 pub returns-in_err-a-in-Unary : goal.returns-in_err-a-in-Unary
 returns-in_err-a-in-Unary t c =

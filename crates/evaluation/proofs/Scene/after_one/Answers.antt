@@ -11,4 +11,4 @@ returns-in_err-paid c =
 pub returns : goal.returns
 returns c =
     one_paid _ _ _ _ (went c.work-paid.ensures c.in_ok-paid.was) c.release.ensures
-    (c.narrow_interval.ensures c.args.self.now.input.constants.now)
+    (c.restrict_interval.ensures c.args.self.now.input.constants.now)

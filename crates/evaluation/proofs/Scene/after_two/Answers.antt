@@ -12,4 +12,4 @@ returns-in_err-interval c =
 pub returns : goal.returns
 returns c =
     two_made _ _ _ _ _ _ c.args.a c.args.b _
-    c.release.ensures c.release-2.ensures (went c.combine-interval.ensures c.in_ok-interval.was) (c.narrow_interval.ensures c.args.self.now.input.constants.now)
+    c.release.ensures c.release-2.ensures (went c.combine-interval.ensures c.in_ok-interval.was) (c.restrict_interval.ensures c.args.self.now.input.constants.now)

@@ -36,7 +36,7 @@ returns-in_default c =
 
 pub returns : goal.returns
 returns c = elim c.match-expression_at.branch [
-  | in-Constant+in_ok-work-in-Constant+in_ok-value-in-Constant w ↦ (rw (w.value-is, w.meter-is) at c.narrow.ensures) ∙ after_on _ (seen_went value_of w.constant.ensures w.in_ok-value-in-Constant.was) ∙ at_node _ _ _ _ _ (went w.work.ensures w.in_ok-work-in-Constant.was) c.expression_at.ensures w.in-Constant.is
-  | in-Slot+in_ok-work-in-Slot+in_ok-value-in-Slot w ↦ (rw (w.value-is, w.meter-is) at c.narrow.ensures) ∙ after_on _ (seen_went value_of (rw w.abstract_at.ensures at w.copied.ensures) w.in_ok-value-in-Slot.was) ∙ at_node _ _ _ _ _ (went w.work-in-Slot.ensures w.in_ok-work-in-Slot.was) c.expression_at.ensures w.in-Slot.is
-  | in-Unknown+in_ok-work-in-Unknown w ↦ (rw (w.value-is, w.meter-is) at c.narrow.ensures) ∙ after_pure _ w.unknown-value.ensures ∙ at_node _ _ _ _ _ (went w.work-in-Unknown.ensures w.in_ok-work-in-Unknown.was) c.expression_at.ensures w.in-Unknown.is
+  | in-Constant+in_ok-work-in-Constant+in_ok-value-in-Constant w ↦ (rw (w.value-is, w.meter-is) at c.restrict.ensures) ∙ after_on _ (seen_went value_of w.constant.ensures w.in_ok-value-in-Constant.was) ∙ at_node _ _ _ _ _ (went w.work.ensures w.in_ok-work-in-Constant.was) c.expression_at.ensures w.in-Constant.is
+  | in-Slot+in_ok-work-in-Slot+in_ok-value-in-Slot w ↦ (rw (w.value-is, w.meter-is) at c.restrict.ensures) ∙ after_on _ (seen_went value_of (rw w.abstract_at.ensures at w.copied.ensures) w.in_ok-value-in-Slot.was) ∙ at_node _ _ _ _ _ (went w.work-in-Slot.ensures w.in_ok-work-in-Slot.was) c.expression_at.ensures w.in-Slot.is
+  | in-Unknown+in_ok-work-in-Unknown w ↦ (rw (w.value-is, w.meter-is) at c.restrict.ensures) ∙ after_pure _ w.unknown-value.ensures ∙ at_node _ _ _ _ _ (went w.work-in-Unknown.ensures w.in_ok-work-in-Unknown.was) c.expression_at.ensures w.in-Unknown.is
 ]

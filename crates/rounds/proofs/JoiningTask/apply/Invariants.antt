@@ -8,4 +8,4 @@ use Rattle.rounds.proofs.JoiningTask.apply.Given as goal
 
 abbrev pub invariant-loop-j : goal.invariant-loop-j
 invariant-loop-j l =
-    Going (join_head (input_in l.self.input) l.locals.produced.now l.locals.refinements.now l.locals.recorded) (head_at l.self.rules.now l.id) l.j-end (slots l.fn.meter l.fn.table) l.j (slots l.meter l.table)
+    Going (join_head (input_in l.given.input) l.locals.produced.now l.locals.refinements.now l.locals.recorded) (head_at l.given.rules.now l.id) l.j-end (slots l.fn.meter l.fn.table) l.j (slots l.meter l.table)

@@ -1,6 +1,4 @@
 -- `store::Store::argument` meets its contract.
-use native.Mathlib.Omega.{arith}
-use mathlib.Core.Path.{sym}
 use Rattle.store.proofs.CodeLaws.{argument_id}
 use Rattle.store.proofs.Store.argument.Goals as goal
 

@@ -1,7 +1,7 @@
--- `report::put_stop` meets its contract.
+-- `report::put_refused` meets its contract.
 use Rattle.text.proofs.Words.{line_first}
 use Rattle.report.proofs.LineLaws.{line_last}
-use Rattle.report.proofs.put_stop.Goals as goal
+use Rattle.report.proofs.put_refused.Goals as goal
 
 pub returns : goal.returns
 returns c =
