@@ -7,20 +7,19 @@ use lib.IntN.{ℤ}
 use lib.ListN.{length}
 use Rattle.integers.specs.Order.{Number, least32, greatest32}
 use Rattle.integers.specs.Lists.{All}
-use Rattle.limits.specs.declared.Stop.{Stop}
 use Rattle.limits.specs.declared.Budget.{Budget}
 use Rattle.limits.specs.declared.Resource.TheVariants.{Work}
-use Rattle.limits.specs.Metered.{Run, going, stopped, ◌>>◌}
+use Rattle.limits.specs.Metered.{◌>>◌}
 use Rattle.limits.specs.Meter.{meter_of, with_meter}
 use Rattle.limits.specs.Budget.{work, released}
-use Rattle.limits.proofs.Ends.{Ends, completes, stops, ends_as, ends_both, ends_then, ends_through, on_then}
+use Rattle.limits.proofs.Ends.{Ends, completes, ends_as, ends_both, ends_then, ends_through, on_then}
 use Rattle.rows.specs.Row.{row, value_at}
 use Rattle.rows.proofs.Good.{Good}
 use Rattle.store.proofs.Frame.{ending_ends}
 use Rattle.thresholds.specs.Thresholds.{Entry, entry, enter}
 use Rattle.thresholds.proofs.Outcomes.{Charging, charging_more}
 use Rattle.thresholds.proofs.Numbers.{enter_numbers}
-use Rattle.thresholds.proofs.Sorted.{Rises, Has, Kept, Ending, enter_keeps}
+use Rattle.thresholds.proofs.Sorted.{Rises, Has, Kept, enter_keeps}
 use Rattle.slots.specs.Slots.{Slots, slots, total, copies}
 use Rattle.slots.proofs.Live.{Formed, Held, copies_ends}
 use Rattle.limits.proofs.Charging.{charge_ends}

@@ -1,24 +1,20 @@
 -- What the start of a run keeps: the limits; and at most two thresholds are new.
-use Prim.Native.Nat.{ℕ, zero, suc, ◌+◌, ◌-◌, ◌≤◌}
+use Prim.Native.Nat.{ℕ, ◌+◌, ◌≤◌}
 use native.Mathlib.Omega.{arith}
 use mathlib.Core.Path.{◌≡◌, refl, sym, subst, ◌∙◌}
-use mathlib.Core.Bool.{Bool, true, false, cond}
 use mathlib.Core.List.{List}
 use lib.IntN.{ℤ}
 use Rattle.integers.specs.Order.{least32, greatest32}
 use Rattle.limits.specs.declared.Resource.TheVariants.{Work}
 use Rattle.limits.specs.declared.Stop.{Stop}
-use Rattle.limits.specs.Metered.{Run, going, pure, ◌>>◌, zoom}
+use Rattle.limits.specs.Metered.{Run, going, ◌>>◌, zoom}
 use Rattle.limits.specs.Meter.{meter_of, with_meter}
 use Rattle.limits.specs.Budget.{work, released}
-use Rattle.limits.proofs.Ends.{Ends, completes, stops, where_going, in_some_way, ends_pure, ends_as, ends_bind, ends_then, ends_through, on_then}
+use Rattle.limits.proofs.Ends.{Ends, completes, stops, where_going, in_some_way, ends_as, ends_then, ends_through, on_then}
 use Rattle.thresholds.specs.Thresholds.{Entry, entry, enter}
 use Rattle.thresholds.proofs.Outcomes.{Leaves, standing, new, refused, enter_leaves}
 use Rattle.slots.specs.Slots.{slots, total, copies}
-use Rattle.rounds.specs.Round.{Given}
 use Rattle.limits.proofs.Charging.{charge_ends}
-use Rattle.passes.specs.Pass.{Ascent, pass, passes, ascend}
-use Rattle.passes.proofs.Rounds.{pass_ends}
 use Rattle.engine.specs.Run.{enter_ends, Start, start, charging, clearing, seeded, Beginning, beginning, in_start, begin}
 
 -- ---- both ends

@@ -2,33 +2,27 @@
 use Prim.Native.Nat.{ℕ, ◌+◌, ◌*◌, ◌≤◌, ◌<◌}
 use native.Mathlib.Omega.{arith}
 use mathlib.Core.Path.{◌≡◌, sym, ap, ◌∙◌}
-use mathlib.Core.Bool.{Bool, true, false}
+use mathlib.Core.Bool.{Bool, true}
 use mathlib.Core.List.{List}
-use borrow.Author.Tests.{leb-true, le-leb, lt-leb, eqb-true, eq-eqb, ne_eqb}
+use borrow.Author.Tests.{leb-true, eqb-true}
 use lib.Dec.{leb, eqb}
 use lib.IntN.{ℤ}
 use lib.ListN.{length, take, get_or, set, replicate}
-use lib.Seq.{sets, length-take-le}
+use lib.Seq.{length-take-le}
 use Rattle.integers.proofs.Stores.{Writing, writing_more, writing_all}
 use Rattle.integers.proofs.Tests.{and_left, and_right}
 use Rattle.limits.specs.declared.Stop.{Stop}
 use Rattle.limits.specs.declared.Budget.{Budget}
-use Rattle.limits.specs.declared.Refusal.TheVariants.{Closed, Shape, Full}
-use Rattle.limits.specs.Refusal.{told}
-use Rattle.limits.specs.Metered.{Run, going, stopped, answered}
-use Rattle.limits.specs.Budget.{released}
+use Rattle.limits.specs.Metered.{Run, going, stopped}
 use Rattle.thresholds.specs.Thresholds.{entry}
 use Rattle.rows.specs.Row.{row, padded}
 use Rattle.rows.proofs.RowLaws.{length_padded, get_or_padded}
-use Rattle.store.specs.Store.{Context}
-use Rattle.std.proofs.Common.{Result, Ok, Err}
-use Rattle.store.specs.declared.Phase.TheVariants.{Completed, Stopped}
+use Rattle.store.specs.declared.Phase.TheVariants.{Stopped}
 use Rattle.store.specs.declared.Counts.{Counts}
 use Rattle.store.specs.declared.Store.{Store}
 use Rattle.store.specs.Store.{admits}
 use Rattle.rules.specs.Rule as rule
-use Rattle.slots.specs.Slots.{total}
-use Rattle.rounds.specs.Round.{blank, moved}
+use Rattle.rounds.specs.Round.{blank}
 use Rattle.engine.specs.Run.{Beginning, beginning, begin, Progress, progress, finish}
 use Rattle.engine.specs.Call.{Read, Tables, tables, sizes, result_sizes, spacious, given_of, ended_in, concluded, finished, ran_on, run_call}
 use Rattle.engine.proofs.Kept.{begin_grown}

@@ -7,7 +7,7 @@ use lib.IntN.{ℤ}
 use Rattle.std.proofs.Common.{Result, Ok, Err}
 use Rattle.limits.specs.declared.Stop.{Stop}
 use Rattle.limits.specs.declared.Budget.{Budget}
-use Rattle.limits.specs.Metered.{Run, going, stopped, Metered, answered, pure, ◌>>=◌}
+use Rattle.limits.specs.Metered.{Run, going, stopped, answered}
 use Rattle.limits.specs.Budget.{released}
 use Rattle.limits.proofs.Monad.{pure_is, bind_on, bind_stop, through_on, through_stop}
 use Rattle.slots.specs.Slots.{total}

@@ -2,30 +2,28 @@
 use Prim.Native.Nat.{ℕ, suc, ◌+◌, ◌-◌, ◌≤◌, ◌<◌}
 use native.Mathlib.Omega.{arith}
 use mathlib.Core.Path.{◌≡◌, ap, ◌∙◌}
-use mathlib.Core.Bool.{Bool, true, false, not, ◌||◌}
+use mathlib.Core.Bool.{Bool, true, false, ◌||◌}
 use mathlib.Core.List.{List}
 use lib.IntN.{ℤ}
 use Rattle.std.proofs.Common.{Result, Ok, Err}
 use Rattle.limits.specs.declared.Stop.{Stop}
 use Rattle.limits.specs.declared.Budget.{Budget}
 use Rattle.limits.specs.declared.Meter.{Meter}
-use Rattle.limits.specs.Metered.{Run, going, stopped, Metered, answered, pure, ◌>>=◌}
-use Rattle.limits.specs.Meter.{work, holding, held_through, meter_of, with_meter}
+use Rattle.limits.specs.Metered.{going, stopped, Metered, answered, ◌>>=◌}
+use Rattle.limits.specs.Meter.{holding, held_through, meter_of, with_meter}
 use Rattle.limits.specs.Budget.{released, widened_once}
-use Rattle.limits.proofs.Monad.{bind_stop, bind_on, then_stop, then_on, pure_is, through_on, through_stop}
+use Rattle.limits.proofs.Monad.{through_on, through_stop}
 use Rattle.limits.proofs.Onward.{Onward, onward_begins, onward_ends, bind_stops, bind_goes}
-use Rattle.limits.proofs.Answering.{went, broke, held_is}
+use Rattle.limits.proofs.Answering.{held_is}
 use Rattle.lists.specs.Ids.{seen}
 use Rattle.lattice.specs.Value.{Value, value_of}
-use Rattle.lattice.specs.Lattice.{same, join}
 use Rattle.rows.specs.Row.{entries_of, value_at, put}
 use Rattle.slots.specs.Slots.{total}
 use Rattle.seeds.specs.Seed.{loses}
 use Rattle.widening.specs.declared.Growth.{Growth}
-use Rattle.widening.specs.declared.Wide.{Wide}
-use Rattle.widening.specs.Widening.{widen, growth_at, put_growth}
+use Rattle.widening.specs.Widening.{growth_at, put_growth}
 use Rattle.passes.specs.declared.Grown as code
-use Rattle.passes.specs.Step.{Grown, grown, within, compared, widen_value, grow, Steps, steps, counting, step, holding_next, advance}
+use Rattle.passes.specs.Step.{grow, Steps, steps, counting, step, holding_next, advance}
 use Rattle.passes.specs.Lent.{grown_in}
 
 -- ---- what is done while a value is in hand
