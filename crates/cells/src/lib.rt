@@ -1,4 +1,5 @@
-//! Cells of lent tables: a cell that may lie beyond its table, and numbers of 32 signed bits in unsigned cells.
+//! Cells of lent tables: a cell that may lie beyond its table, and numbers of 32 signed bits in unsigned cells. No crate has a heap: tables are
+//! lent and have one size, and how many of their rows count stands beside them.
 #![tactic(auto)]
 
 ghost use Rattle.std.specs.Prelude.{◌≡◌, get_or, set};

@@ -1,5 +1,5 @@
 //! The codes of operators and reasons in a job. A code that no kind has stands for the last one: no `TryFrom`, since any word of a job,
-//! tested before or not, is read as some kind.
+//! tested before or not, is read as some kind; and no `From`, since the kinds are other crates'.
 #![tactic(auto)]
 
 ghost use Rattle.std.specs.Prelude.{◌≡◌};

@@ -223,7 +223,7 @@ impl Scene<'_> {
         self.restrict_interval(interval, id, meter)
     }
 
-    // A node with two children. Both are dropped on every way out.
+    // A node with two children, part by part: a struct of them would serve this call alone. Both are dropped on every way out.
     fn after_two(
         &self,
         id: u64,

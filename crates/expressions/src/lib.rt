@@ -90,7 +90,7 @@ fn first_node(nodes: &[u64], count: usize, node: Node) -> Option<usize>
     None
 }
 
-// The first of the rows that has these cells, or the next place; one unit of work for each that is looked at.
+// The first of the `count` rows, as the header counts them, that has these cells, or the next place; one unit of work for each that is looked at.
 fn seek_node(
     nodes: &[u64],
     count: usize,

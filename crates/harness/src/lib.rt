@@ -57,7 +57,7 @@ pub extern "C" fn harness_predicate(
     code(answer)
 }
 
-// `constant`, for a number and for a name.
+// `constant`, for a number and for a name: of C a flag, a number and bytes.
 #[unsafe(no_mangle)]
 pub extern "C" fn harness_constant(
     named: bool,

@@ -39,7 +39,7 @@ fn binding(words: &[u64], i: usize) -> Binding
     }
 }
 
-// The i-th guard: four words, behind the bindings. Beside the binding: each reads its words in one expression.
+// The i-th guard: four words, behind the bindings. Beside the binding, with which it shares no word but the first.
 fn guard(words: &[u64], i: usize) -> Guard
     requires { i < 32 }
 {

@@ -135,6 +135,7 @@ impl Integrality {
 }
 
 impl Bound {
+    // Associated constants, as 01 names them.
     pub const TOP: Bound = Bound {
         integrality: Integrality::Mixed,
         interval: Interval::Unbounded,

@@ -16,7 +16,7 @@ pub enum Key<'a> {
     Name(&'a [u8]),
 }
 
-// The name of a constant, a part of the lent name store: at most 64 bytes, and what the store has of them.
+// The name of a constant, a part of the lent name store, as 01 names it: at most 64 bytes, and what the store has of them.
 pub fn name_at<'a>(names: &'a [u8], id: usize, len: usize) -> &'a [u8]
     ensures { result.now ≡ name_at names.now id len }
 {
@@ -58,7 +58,7 @@ pub fn compare_at(names: &[u8], cells: &[u32], id: usize, key: Key<'_>) -> Order
     key_at(names, cells, id).cmp(&key)
 }
 
-// Binary search among the first `count` ids of the key order; one unit of work for each key that is looked at.
+// Binary search among the first `count` ids of the key order, whose count stands in the header; one unit of work for each key that is looked at.
 pub fn seek_key(
     names: &[u8],
     cells: &[u32],

@@ -28,7 +28,7 @@ pub enum Widening {
     Dependency,
 }
 
-// A bound, and where `kept` the list of the first `len` ids. Ids behind the list mean nothing.
+// A bound, and where `kept` the list of the first `len` ids: array, length and mark, by value, as 01 has it. Ids behind the list mean nothing.
 #[derive(Clone, Copy)]
 pub struct Abstract {
     pub ids: [u16; 16],

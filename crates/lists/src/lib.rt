@@ -80,6 +80,7 @@ pub fn merge(
     let mut list = Ids::new();
     let mut left = left;
     let mut right = right;
+    // From both lists at once, which no iterator of std is.
     while let Some(id) = next_id(left, right) {
         if !take_one(width, list.len() as u64, meter)? {
             return Ok(None);

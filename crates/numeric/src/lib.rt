@@ -58,7 +58,7 @@ fn is_of(records: &[u32], place: usize, argument: u64) -> bool
     cells::cell_at(records, 2 * place) as u64 == argument
 }
 
-// How many of the first `count` records are of an argument.
+// How many of the first `count` records are of an argument. The count stands in the header, and the table has one size.
 fn count_contexts(records: &[u32], count: usize, argument: u64) -> u64
     requires { count ≤ 1024 }
     ensures { result ≡ length (contexts_of records.now count argument) }
@@ -203,7 +203,7 @@ fn is_names_sized(names: usize, constants: usize) -> bool
     names == 65536 && constants == 2048
 }
 
-// The name of a constant, a part of the lent name store: empty where it has none that is retained.
+// The name of a constant, a part of the lent name store, as 01 names it: empty where it has none that is retained.
 #[tactic(auto, unfolding(crate::specs::Reading::name_reading))]
 pub fn name<'a>(
     store: &Store,

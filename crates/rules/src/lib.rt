@@ -78,6 +78,7 @@ pub struct Lengths {
     pub queries: u64,
 }
 
+// Arrays with their lengths: there is no heap, and a rule is made of the words of a call.
 #[derive(Clone, Copy)]
 pub struct Rule {
     pub slots: u64,

@@ -21,6 +21,7 @@ pub fn seek<F: Fn(usize) -> Ordering>(
     let mut low = 0;
     let mut high = count;
     let mut looks = 0;
+    // A `for` has no step that halves.
     while low < high {
         let middle = low + (high - low) / 2;
         looks += 1;

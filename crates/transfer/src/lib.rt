@@ -1,5 +1,5 @@
 //! `rule` and `head` of transfer.rs: the values of a rule's slots before and after guards, and the value of a head. The caller lends the tables
-//! that a rule fills, and drops their rows when it has done with them.
+//! that a rule fills, one by one as in guards, and drops their rows when it has done with them.
 #![tactic(auto)]
 
 ghost use Rattle.std.specs.Prelude.{◌≡◌};
