@@ -184,7 +184,9 @@ impl Scene<'_> {
         )
     }
 
-    // The same of an expression with children, which has no list: its interval is all that changes.
+    // The same of an expression with children, which has no list: its interval is all that changes. Inlined, as what follows the children is:
+    // a tenth of the time of deep expressions goes with it.
+    #[inline(always)]
     fn restrict_interval(
         &self,
         interval: Interval,
@@ -208,6 +210,7 @@ impl Scene<'_> {
     }
 
     // A node with one child that had so many entries, which are dropped on every way out.
+    #[inline(always)]
     fn after_one(
         &self,
         id: u64,
@@ -224,6 +227,7 @@ impl Scene<'_> {
     }
 
     // A node with two children, part by part: a struct of them would serve this call alone. Both are dropped on every way out.
+    #[inline(always)]
     fn after_two(
         &self,
         id: u64,
