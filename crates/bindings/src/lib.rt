@@ -65,9 +65,9 @@ fn aggregate(function: AggregateFunction) -> Abstract
 
 // One binding of the third pass. Each arm ends by itself: out of a `match` that gives slot and value it is not known which value it is.
 fn meet_binding(
+    input: &Input,
     cells: &mut [u32],
     binding: Binding,
-    input: &Input,
     meter: &mut Meter,
 ) -> Result<(), Stop>
     ensures { answered result (slots meter.new cells.new) ≡ meet_binding (input_in input.now) binding (slots meter.old cells.old) }
@@ -76,66 +76,66 @@ fn meet_binding(
         Binding::Positive { .. } => Ok(()),
         Binding::Assign { slot, value } => {
             let value = assigned(input, cells, value, meter)?;
-            slots::meet_owned(cells, slot as usize, value, input.constants, meter)
+            slots::meet_owned(cells, input.constants, slot as usize, value, meter)
         }
         Binding::Range { slot, low, high } => {
             let value = ranged(input, cells, low, high, meter)?;
-            slots::meet_owned(cells, slot as usize, value, input.constants, meter)
+            slots::meet_owned(cells, input.constants, slot as usize, value, meter)
         }
         Binding::Aggregate { slot, function } => {
             let value = aggregate(function);
-            slots::meet_owned(cells, slot as usize, value, input.constants, meter)
+            slots::meet_owned(cells, input.constants, slot as usize, value, meter)
         }
     }
 }
 
 // The third pass over the bindings of a rule.
 fn meet_bindings(
+    input: &Input,
     cells: &mut [u32],
     rules: &[u32],
     id: usize,
-    input: &Input,
     meter: &mut Meter,
 ) -> Result<(), Stop>
     ensures { answered result (slots meter.new cells.new) ≡ each (meet_binding (input_in input.now)) (bindings_at rules.now id) (slots meter.old cells.old) }
 {
     for j in 0..rules::binding_count(rules, id) {
         meter.work(1)?;
-        meet_binding(cells, rules::binding_at(rules, id, j), input, meter)?;
+        meet_binding(input, cells, rules::binding_at(rules, id, j), meter)?;
     }
     Ok(())
 }
 
 // The three passes.
 fn bind_rows(
+    input: &Input,
     cells: &mut [u32],
     rules: &[u32],
-    id: usize,
     arguments: &[u32],
-    input: &Input,
+    id: usize,
     meter: &mut Meter,
 ) -> Result<(), Stop>
     ensures { answered result (slots meter.new cells.new) ≡ passes (input_in input.now) arguments.now (bindings_at rules.now id) (slots meter.old cells.old) }
 {
-    slots::meet_arguments(cells, rules, id, arguments, input.constants, meter)?;
+    slots::meet_arguments(cells, rules, arguments, input.constants, id, meter)?;
     slots::mark_dependents(cells, rules, id, meter)?;
-    meet_bindings(cells, rules, id, input, meter)
+    meet_bindings(input, cells, rules, id, meter)
 }
 
 // The values of a rule's slots before guards. Where it is stopped, all of them are dropped.
 pub fn bind(
+    input: &Input,
     cells: &mut [u32],
     rules: &[u32],
-    id: usize,
     arguments: &[u32],
-    input: &Input,
+    id: usize,
     meter: &mut Meter,
 ) -> Result<(), Stop>
     ensures { answered result (slots meter.new cells.new) ≡ bind (input_in input.now) arguments.now (slots_at rules.now id) (bindings_at rules.now id) (slots meter.old cells.old) }
 {
     let count = rules::slots_at(rules, id) as usize;
     slots::fill_tops(cells, count, meter)?;
-    let bound = bind_rows(cells, rules, id, arguments, input, meter);
+    let bound = bind_rows(input, cells, rules, arguments, id, meter);
     if bound.is_err() {
         slots::drop_rows(cells, count, meter);
     }

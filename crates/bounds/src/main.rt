@@ -49,19 +49,19 @@ impl Design {
     fn declare(&mut self) -> Result<u64, Refusal> {
         let predicate = self
             .store
-            .predicate(1, &mut self.predicates, &mut self.seeds)?;
-        let argument = self.store.argument(predicate as u64, 0, &self.predicates)?;
+            .predicate(&mut self.predicates, &mut self.seeds, 1)?;
+        let argument = self.store.argument(&self.predicates, predicate as u64, 0)?;
         Ok(argument as u64)
     }
 
     fn number(&mut self, value: i32) -> Result<u64, Refusal> {
         let id = constants::constant(
             &mut self.store,
-            Key::Number(value),
             &mut self.names,
             &mut self.constants,
             &mut self.order,
             &mut self.thresholds,
+            Key::Number(value),
         )?;
         Ok(id as u64)
     }
@@ -69,16 +69,16 @@ impl Design {
     fn seed(&mut self, argument: u64, constant: u64) -> Result<(), Refusal> {
         seeds::seed_value(
             &mut self.store,
-            argument,
-            constant,
             &self.constants,
             &mut self.seeds,
             &mut self.records,
+            argument,
+            constant,
         )
     }
 
     fn expression(&mut self, value: Expression) -> Result<u64, Refusal> {
-        let id = expressions::expression(&mut self.store, value, &mut self.nodes)?;
+        let id = expressions::expression(&mut self.store, &mut self.nodes, value)?;
         Ok(id as u64)
     }
 
@@ -95,10 +95,10 @@ impl Design {
         let next = self.expression(Expression::Binary(BinaryOp::Add, slot, step))?;
         producers::rule(
             &mut self.store,
-            &counting(argument, slot, bound, next),
             &self.nodes,
             &mut self.rules,
             &mut self.records,
+            &counting(argument, slot, bound, next),
         )?;
         Ok(())
     }
@@ -121,17 +121,17 @@ impl Design {
         let mut line = [0; report::LINE];
         let status = report::status_line(&self.store, &mut line);
         tell(output, status, &line);
-        let argument = report::argument_line(&self.store, &self.arguments, 0, &mut line);
+        let argument = report::argument_line(&self.store, &self.arguments, &mut line, 0);
         tell(output, argument, &line);
         for after in [false, true] {
             let slot = report::slot_line(
                 &self.store,
                 &self.rules,
                 &self.slots,
+                &mut line,
                 0,
                 0,
                 after,
-                &mut line,
             );
             tell(output, slot, &line);
         }
@@ -149,7 +149,7 @@ fn send(output: Stdout, line: &[u8], len: usize) {
 
 fn complain(output: Stdout, refusal: Refusal) {
     let mut line = [0; report::LINE];
-    if let Ok(len) = report::refusal_line(refusal, &mut line) {
+    if let Ok(len) = report::refusal_line(&mut line, refusal) {
         send(output, &line, len);
     }
 }

@@ -63,18 +63,18 @@ fn retained(store: &Store, key: Key<'_>) -> bool
 }
 
 // What the reader charges.
-fn classify(store: &mut Store, key: Key<'_>, thresholds: &mut [i32]) -> Result<(), Refusal>
+fn classify(store: &mut Store, thresholds: &mut [i32], key: Key<'_>) -> Result<(), Refusal>
     requires { store.old.counts.thresholds + 3 ≤ length thresholds.old }
     ensures { replied result (marks store.new thresholds.new) ≡ classify (key_of key.entry) (marks store.old thresholds.old) }
 {
     match key {
-        Key::Number(value) => store.enter(value, thresholds),
+        Key::Number(value) => store.enter(thresholds, value),
         Key::Name(text) => store.pay(Resource::InspectedBytes, text.len() as u64),
     }
 }
 
 // What a new key costs: a link, and the ids that move.
-fn pay(budget: &mut Budget, moved: u64) -> Result<(), Stop>
+fn pay(moved: u64, budget: &mut Budget) -> Result<(), Stop>
     ensures { answered result budget.new ≡ cost moved budget.old }
 {
     budget.pay(Resource::Links, 1)?;
@@ -84,11 +84,11 @@ fn pay(budget: &mut Budget, moved: u64) -> Result<(), Stop>
 // A key that is new: its cells, its bytes, and its place in the key order.
 fn add(
     store: &mut Store,
-    low: usize,
-    key: Key<'_>,
     names: &mut [u8],
     constants: &mut [u32],
     order: &mut [u32],
+    low: usize,
+    key: Key<'_>,
 ) -> usize
     requires { (store.old.counts.constants ≤ 1024) × ((store.old.counts.keys ≤ 1024) × (length (bytes_of (key_of key)) ≤ 64)) }
     ensures { going result (key_tables store.new names.new constants.new order.new) ≡ add_key (key_of key.entry) low (key_tables store.old names.old constants.old order.old) }
@@ -106,27 +106,27 @@ fn add(
 // A key that is not in the key order yet: it is paid for, then added.
 fn enroll(
     store: &mut Store,
-    low: usize,
-    key: Key<'_>,
     names: &mut [u8],
     constants: &mut [u32],
     order: &mut [u32],
+    low: usize,
+    key: Key<'_>,
 ) -> Result<usize, Refusal>
     requires { (low ≤ store.old.counts.keys) × ((store.old.counts.constants ≤ 1024) × ((store.old.counts.keys ≤ 1024) × (length (bytes_of (key_of key)) ≤ 64))) }
     ensures { replied result (key_tables store.new names.new constants.new order.new) ≡ settle (key_of key.entry) store.old.counts.keys (absent low) (key_tables store.old names.old constants.old order.old) }
 {
     let moved = (store.counts.keys - low) as u64;
-    pay(&mut store.budget, moved)?;
-    Ok(add(store, low, key, names, constants, order))
+    pay(moved, &mut store.budget)?;
+    Ok(add(store, names, constants, order, low, key))
 }
 
 // A retained key: its old id, or a new constant in its place of the key order.
 fn keep(
     store: &mut Store,
-    key: Key<'_>,
     names: &mut [u8],
     constants: &mut [u32],
     order: &mut [u32],
+    key: Key<'_>,
 ) -> Result<usize, Refusal>
     requires { (store.old.counts.constants ≤ 1024) × ((store.old.counts.keys ≤ 1024) × (length (bytes_of (key_of key)) ≤ 64)) }
     ensures { replied result (key_tables store.new names.new constants.new order.new) ≡ keep (key_of key.entry) (key_tables store.old names.old constants.old order.old) }
@@ -136,7 +136,7 @@ fn keep(
     store.budget.settle(meter);
     match sought? {
         Ok(place) => Ok(cells::cell_at(order, place) as usize),
-        Err(place) => enroll(store, place, key, names, constants, order),
+        Err(place) => enroll(store, names, constants, order, place, key),
     }
 }
 
@@ -155,16 +155,16 @@ fn abandon(store: &mut Store, constants: &mut [u32]) -> Result<usize, Refusal>
 // Once it is classified, a key is kept or not.
 fn retain(
     store: &mut Store,
-    key: Key<'_>,
     names: &mut [u8],
     constants: &mut [u32],
     order: &mut [u32],
+    key: Key<'_>,
 ) -> Result<usize, Refusal>
     requires { (store.old.counts.constants ≤ 1024) × ((store.old.counts.keys ≤ 1024) × (length (bytes_of (key_of key)) ≤ 64)) }
     ensures { replied result (key_tables store.new names.new constants.new order.new) ≡ retain (key_of key.entry) (key_tables store.old names.old constants.old order.old) }
 {
     if retained(store, key) {
-        keep(store, key, names, constants, order)
+        keep(store, names, constants, order, key)
     } else {
         abandon(store, constants)
     }
@@ -174,11 +174,11 @@ fn retain(
 #[tactic(auto, unfolding(crate::specs::Constant::constant_call))]
 pub fn constant(
     store: &mut Store,
-    key: Key<'_>,
     names: &mut [u8],
     constants: &mut [u32],
     order: &mut [u32],
     thresholds: &mut [i32],
+    key: Key<'_>,
 ) -> Result<usize, Refusal>
     ensures { replied result (tables store.new names.new constants.new order.new thresholds.new) ≡ constant_call (key_of key.entry) (tables store.old names.old constants.old order.old thresholds.old) }
 {
@@ -194,6 +194,6 @@ pub fn constant(
         return Err(Refusal::Full);
     }
     store.pay(Resource::Work, 1)?;
-    classify(store, key, thresholds)?;
-    retain(store, key, names, constants, order)
+    classify(store, thresholds, key)?;
+    retain(store, names, constants, order, key)
 }

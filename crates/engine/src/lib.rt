@@ -99,7 +99,7 @@ fn finish(
 }
 
 // The run of a store has ended. The caller's context stays.
-fn end(store: &mut Store, budget: Budget, thresholds: usize, phase: Phase)
+fn end(store: &mut Store, thresholds: usize, phase: Phase, budget: Budget)
     ensures { store.new ≡ ended_in phase budget thresholds store.old }
 {
     store.budget = budget;
@@ -120,14 +120,14 @@ fn move_cells(from: &[u32], to: &mut [u32], count: usize)
 // the result tables stay.
 fn conclude(
     store: &mut Store,
-    ran: Result<(), Stop>,
-    course: Course,
-    thresholds: usize,
     seeds: &[u32],
     current: &[u32],
     bounds: &[u32],
     arguments: &mut [u32],
     slots: &mut [u32],
+    ran: Result<(), Stop>,
+    thresholds: usize,
+    course: Course,
 )
     requires { store.old.counts.rules ≤ 256 }
     ensures { (marks before : List ℤ) (growth : List ℕ) → tables store.new marks arguments.new slots.new ≡ concluded seeds.now thresholds marks (tables store.old before arguments.old slots.old) (answered ran (progress course.budget course.context current.now growth bounds.now)) }
@@ -139,16 +139,16 @@ fn conclude(
             rounds::without_rows(current, positions, &mut budget);
             end(
                 store,
-                budget,
                 thresholds,
                 Phase::Stopped(stop, course.context),
+                budget,
             );
         }
         Ok(()) => {
             rounds::move_rows(current, arguments, positions);
             move_cells(bounds, slots, results::RULE * store.counts.rules);
             rounds::without_rows(seeds, positions, &mut budget);
-            end(store, budget, thresholds, Phase::Completed);
+            end(store, thresholds, Phase::Completed, budget);
         }
     }
 }
@@ -210,7 +210,7 @@ fn run_open(
     );
     if let Err(stop) = begun {
         let phase = Phase::Stopped(stop, course.context);
-        return end(store, course.budget, marks, phase);
+        return end(store, marks, phase, course.budget);
     }
     let ran = finish(
         &given,
@@ -221,7 +221,7 @@ fn run_open(
         &mut course,
     );
     conclude(
-        store, ran, course, marks, seeds, &current, &bounds, arguments, slots,
+        store, seeds, &current, &bounds, arguments, slots, ran, marks, course,
     );
 }
 

@@ -175,11 +175,11 @@ impl Scene<'_> {
             return Ok(value);
         }
         refinements::restrict(
-            value,
             self.refinements,
             self.count,
-            id,
             self.input.constants,
+            value,
+            id,
             meter,
         )
     }
@@ -200,9 +200,9 @@ impl Scene<'_> {
             return Ok(numeral(interval));
         }
         let narrow = refinements::restrict_interval(
-            interval,
             self.refinements,
             self.count,
+            interval,
             id,
             meter,
         )?;
@@ -259,7 +259,7 @@ impl Scene<'_> {
     {
         if rows::is_listed(self.slots, slot) {
             let value = rows::abstract_at(self.slots, slot);
-            let narrow = refinements::narrow(value, restriction, self.input.constants, meter)?;
+            let narrow = refinements::narrow(self.input.constants, value, restriction, meter)?;
             return Ok(Operand::from(narrow));
         }
         narrow_bound(rows::bound_at(self.slots, slot), restriction, meter)

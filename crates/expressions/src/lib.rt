@@ -130,7 +130,7 @@ fn seek_older(
 }
 
 // An expression that the call takes: the older id, or a new row.
-fn share(store: &mut Store, value: Expression, nodes: &mut [u64]) -> Result<usize, Refusal>
+fn share(store: &mut Store, nodes: &mut [u64], value: Expression) -> Result<usize, Refusal>
     requires { (store.old.counts.expressions < 1024) × (deepest nodes.old store.old.counts.expressions value < 64) × (row * 1024 ≤ length nodes.old) }
     ensures { replied result (tables store.new nodes.new) ≡ share value (tables store.old nodes.old) }
 {
@@ -150,7 +150,7 @@ fn share(store: &mut Store, value: Expression, nodes: &mut [u64]) -> Result<usiz
 
 // An expression: its id.
 #[tactic(auto, unfolding(crate::specs::Expression::expression_call))]
-pub fn expression(store: &mut Store, value: Expression, nodes: &mut [u64]) -> Result<usize, Refusal>
+pub fn expression(store: &mut Store, nodes: &mut [u64], value: Expression) -> Result<usize, Refusal>
     ensures { replied result (tables store.new nodes.new) ≡ expression_call value (tables store.old nodes.old) }
 {
     let count = store.counts.expressions;
@@ -170,5 +170,5 @@ pub fn expression(store: &mut Store, value: Expression, nodes: &mut [u64]) -> Re
     if !is_valid(store.counts, value) {
         return Err(Refusal::Missing);
     }
-    share(store, value, nodes)
+    share(store, nodes, value)
 }

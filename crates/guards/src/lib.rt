@@ -21,9 +21,9 @@ use rules::{Guard, Relation};
 // An expression that is a slot and a literal narrows the slot.
 fn narrow_slot(
     produced: &mut [u32],
+    constants: &[u32],
     affine: Option<Affine>,
     restriction: Interval,
-    constants: &[u32],
     meter: &mut Meter,
 ) -> Result<(), Stop>
     ensures { answered result (slots meter.new produced.new) ≡ narrow_slot constants.now affine restriction (slots meter.old produced.old) }
@@ -32,35 +32,35 @@ fn narrow_slot(
         return Ok(());
     };
     let slot = affine.slot as usize;
-    slots::refine_into(produced, slot, affine.solve(restriction), constants, meter)
+    slots::refine_into(produced, constants, slot, affine.solve(restriction), meter)
 }
 
 // An expression with one value in a firing: what is known of it is recorded, and narrows a slot.
 fn narrow_known(
+    input: &Input,
     produced: &mut [u32],
     refinements: &mut [u32],
     count: usize,
     id: u64,
     restriction: Interval,
-    input: &Input,
     meter: &mut Meter,
 ) -> Result<usize, Stop>
     ensures { answered result (local meter.new produced.new refinements.new) ≡ narrow_known input.now.nodes.now input.now.constants.now count id restriction (local meter.old produced.old refinements.old) }
 {
     let recorded = refinements::note(refinements, count, id, restriction, meter)?;
     let affine = affine::affine_of(input.nodes, input.constants, id);
-    narrow_slot(produced, affine, restriction, input.constants, meter)?;
+    narrow_slot(produced, input.constants, affine, restriction, meter)?;
     Ok(recorded)
 }
 
 // `refine_operand`: an operand of a comparison lies in an interval.
 fn refine_operand(
+    input: &Input,
     produced: &mut [u32],
     refinements: &mut [u32],
     count: usize,
     id: u64,
     restriction: Interval,
-    input: &Input,
     meter: &mut Meter,
 ) -> Result<usize, Stop>
     ensures { answered result (local meter.new produced.new refinements.new) ≡ refine_operand input.now.nodes.now input.now.constants.now count id restriction (local meter.old produced.old refinements.old) }
@@ -68,11 +68,12 @@ fn refine_operand(
     if !evaluation::known_identity(input.nodes, id, meter)? {
         return Ok(count);
     }
-    narrow_known(produced, refinements, count, id, restriction, input, meter)
+    narrow_known(input, produced, refinements, count, id, restriction, meter)
 }
 
 // The left operand of a comparison lies in one interval and the right one in another.
 fn refine_both(
+    input: &Input,
     produced: &mut [u32],
     refinements: &mut [u32],
     count: usize,
@@ -80,13 +81,12 @@ fn refine_both(
     x: Interval,
     right: u64,
     y: Interval,
-    input: &Input,
     meter: &mut Meter,
 ) -> Result<usize, Stop>
     ensures { answered result (local meter.new produced.new refinements.new) ≡ refine_both input.now.nodes.now input.now.constants.now count left x right y (local meter.old produced.old refinements.old) }
 {
-    let recorded = refine_operand(produced, refinements, count, left, x, input, meter)?;
-    refine_operand(produced, refinements, recorded, right, y, input, meter)
+    let recorded = refine_operand(input, produced, refinements, count, left, x, meter)?;
+    refine_operand(input, produced, refinements, recorded, right, y, meter)
 }
 
 // Whether a value with this bound has numbers alone.
@@ -105,6 +105,7 @@ fn is_narrowing(relation: Relation, a: Bound, b: Bound) -> bool
 
 // `refine_comparison`, once both operands are worked out.
 fn compare(
+    input: &Input,
     produced: &mut [u32],
     refinements: &mut [u32],
     count: usize,
@@ -113,7 +114,6 @@ fn compare(
     right: u64,
     a: Bound,
     b: Bound,
-    input: &Input,
     meter: &mut Meter,
 ) -> Result<usize, Stop>
     ensures { answered result (local meter.new produced.new refinements.new) ≡ compared input.now.nodes.now input.now.constants.now count left relation right (bare a) (bare b) (local meter.old produced.old refinements.old) }
@@ -122,6 +122,7 @@ fn compare(
         return Ok(count);
     }
     refine_both(
+        input,
         produced,
         refinements,
         count,
@@ -129,7 +130,6 @@ fn compare(
         affine::restricted(relation, a.interval, b.interval),
         right,
         affine::restricted(affine::flipped(relation), b.interval, a.interval),
-        input,
         meter,
     )
 }
@@ -144,11 +144,11 @@ fn is_spanning(own: Bound, a: Bound, b: Bound) -> bool
 // A slot lies between two values. Nothing is recorded of it.
 fn member(
     produced: &mut [u32],
+    constants: &[u32],
     count: usize,
     slot: usize,
     a: Bound,
     b: Bound,
-    constants: &[u32],
     meter: &mut Meter,
 ) -> Result<usize, Stop>
     ensures { (refinements : List ℕ) → answered result (local meter.new produced.new refinements) ≡ member constants.now count slot (bare a) (bare b) (local meter.old produced.old refinements) }
@@ -156,7 +156,7 @@ fn member(
     let own = rows::bound_at(produced, slot);
     if is_spanning(own, a, b) {
         let span = operators::span(a.interval, b.interval);
-        slots::refine_into(produced, slot, span, constants, meter)?;
+        slots::refine_into(produced, constants, slot, span, meter)?;
     }
     Ok(count)
 }
@@ -173,13 +173,13 @@ fn operands(guard: Guard) -> (u64, u64)
 
 // A guard, once both its expressions are worked out.
 fn narrow(
+    input: &Input,
     produced: &mut [u32],
     refinements: &mut [u32],
     count: usize,
     guard: Guard,
     a: Bound,
     b: Bound,
-    input: &Input,
     meter: &mut Meter,
 ) -> Result<usize, Stop>
     ensures { answered result (local meter.new produced.new refinements.new) ≡ narrowed (input_in input.now) count guard (bare a) (bare b) (local meter.old produced.old refinements.old) }
@@ -190,6 +190,7 @@ fn narrow(
             relation,
             right,
         } => compare(
+            input,
             produced,
             refinements,
             count,
@@ -198,22 +199,21 @@ fn narrow(
             right,
             a,
             b,
-            input,
             meter,
         ),
         Guard::Membership { slot, .. } => {
-            member(produced, count, slot as usize, a, b, input.constants, meter)
+            member(produced, input.constants, count, slot as usize, a, b, meter)
         }
     }
 }
 
 // One guard. Both its expressions stay live until it has ended.
 fn guard_one(
+    input: &Input,
     produced: &mut [u32],
     refinements: &mut [u32],
     count: usize,
     guard: Guard,
-    input: &Input,
     meter: &mut Meter,
 ) -> Result<usize, Stop>
     ensures { answered result (local meter.new produced.new refinements.new) ≡ guard_one (input_in input.now) count guard (local meter.old produced.old refinements.old) }
@@ -227,13 +227,13 @@ fn guard_one(
     };
     let (a, b) = scene.both(first, second, meter)?;
     let narrowed = narrow(
+        input,
         produced,
         refinements,
         count,
         guard,
         a.bound,
         b.bound,
-        input,
         meter,
     );
     meter.release(b.entries);
@@ -243,11 +243,11 @@ fn guard_one(
 
 // All guards of a rule, one after another, a unit of work before each: how many refinements are recorded then.
 fn guard_rows(
+    input: &Input,
     produced: &mut [u32],
     refinements: &mut [u32],
     rules: &[u32],
     id: usize,
-    input: &Input,
     meter: &mut Meter,
 ) -> Result<usize, Stop>
     ensures { answered result (local meter.new produced.new refinements.new) ≡ guard_all (input_in input.now) (guards_at rules.now id) (local meter.old produced.old refinements.old) }
@@ -256,26 +256,26 @@ fn guard_rows(
     for j in 0..rules::guard_count(rules, id) {
         meter.work(1)?;
         let guard = rules::guard_at(rules, id, j);
-        count = guard_one(produced, refinements, count, guard, input, meter)?;
+        count = guard_one(input, produced, refinements, count, guard, meter)?;
     }
     Ok(count)
 }
 
 // The values of a rule's slots after guards, from those before. Where it is stopped, those after guards are dropped.
 pub fn guard(
+    input: &Input,
     domains: &[u32],
     produced: &mut [u32],
     refinements: &mut [u32],
     rules: &[u32],
     id: usize,
-    input: &Input,
     meter: &mut Meter,
 ) -> Result<usize, Stop>
     ensures { answered result (local meter.new produced.new refinements.new) ≡ guard (input_in input.now) domains.now (slots_at rules.now id) (guards_at rules.now id) (local meter.old produced.old refinements.old) }
 {
     let count = rules::slots_at(rules, id) as usize;
     slots::copy_rows(domains, produced, count, meter)?;
-    let guarded = guard_rows(produced, refinements, rules, id, input, meter);
+    let guarded = guard_rows(input, produced, refinements, rules, id, meter);
     if guarded.is_err() {
         slots::drop_rows(produced, count, meter);
     }

@@ -185,7 +185,7 @@ fn put_phase(words: &mut [u64], phase: Phase) {
     }
 }
 
-pub fn put(words: &mut [u64], store: &Store) {
+pub fn put(store: &Store, words: &mut [u64]) {
     put_limits(words, store.budget.limits);
     put_statistics(words, store.budget.statistics);
     put_counts(words, store.counts);

@@ -20,7 +20,7 @@ fn code<T: Copy>(answer: Result<T, Refusal>) -> u64 {
 #[unsafe(no_mangle)]
 pub extern "C" fn harness_fresh(words: &mut [u64]) -> u64 {
     let (store, answer) = store::fresh(header::limits_of(words));
-    header::put(words, &store);
+    header::put(&store, words);
     code(answer)
 }
 
@@ -33,7 +33,7 @@ pub extern "C" fn harness_plain(call: u64, a: u64, words: &mut [u64]) -> u64 {
     } else {
         store.work(a)
     };
-    header::put(words, &store);
+    header::put(&store, words);
     code(answer)
 }
 
@@ -49,11 +49,11 @@ pub extern "C" fn harness_predicate(
 ) -> u64 {
     let mut store = header::of(words);
     let answer = if call == 0 {
-        store.predicate(a, predicates, seeds)
+        store.predicate(predicates, seeds, a)
     } else {
-        store.argument(a, b, predicates)
+        store.argument(predicates, a, b)
     };
-    header::put(words, &store);
+    header::put(&store, words);
     code(answer)
 }
 
@@ -75,8 +75,8 @@ pub extern "C" fn harness_constant(
     } else {
         Key::Number(value)
     };
-    let answer = constants::constant(&mut store, key, names, constants, order, thresholds);
-    header::put(words, &store);
+    let answer = constants::constant(&mut store, names, constants, order, thresholds, key);
+    header::put(&store, words);
     code(answer)
 }
 
@@ -91,8 +91,8 @@ pub extern "C" fn harness_expression(
     nodes: &mut [u64],
 ) -> u64 {
     let mut store = header::of(words);
-    let answer = expressions::expression(&mut store, parts::expression(kind, a, b, c), nodes);
-    header::put(words, &store);
+    let answer = expressions::expression(&mut store, nodes, parts::expression(kind, a, b, c));
+    header::put(&store, words);
     code(answer)
 }
 
@@ -112,11 +112,11 @@ pub extern "C" fn harness_seed(
 ) -> u64 {
     let mut store = header::of(words);
     let answer = if call == 0 {
-        seeds::seed_value(&mut store, argument, value, constants, seeds, records)
+        seeds::seed_value(&mut store, constants, seeds, records, argument, value)
     } else {
-        seeds::seed_interval(&mut store, argument, low, high, seeds, records, thresholds)
+        seeds::seed_interval(&mut store, seeds, records, thresholds, argument, low, high)
     };
-    header::put(words, &store);
+    header::put(&store, words);
     code(answer)
 }
 
@@ -130,8 +130,8 @@ pub extern "C" fn harness_rule(
     records: &mut [u32],
 ) -> u64 {
     let mut store = header::of(words);
-    let answer = producers::rule(&mut store, &parts::rule(rule), nodes, rules, records);
-    header::put(words, &store);
+    let answer = producers::rule(&mut store, nodes, rules, records, &parts::rule(rule));
+    header::put(&store, words);
     code(answer)
 }
 
@@ -151,7 +151,7 @@ pub extern "C" fn harness_run(
     let answer = engine::run(
         &mut store, nodes, constants, rules, seeds, thresholds, arguments, slots,
     );
-    header::put(words, &store);
+    header::put(&store, words);
     code(answer)
 }
 
@@ -228,10 +228,10 @@ pub extern "C" fn harness_line(
     let store = header::of(words);
     code(match call {
         0 => report::status_line(&store, line),
-        1 => report::argument_line(&store, arguments, a, line),
-        2 => report::slot_line(&store, rules, slots, a, b, false, line),
-        3 => report::slot_line(&store, rules, slots, a, b, true, line),
+        1 => report::argument_line(&store, arguments, line, a),
+        2 => report::slot_line(&store, rules, slots, line, a, b, false),
+        3 => report::slot_line(&store, rules, slots, line, a, b, true),
         4 => report::statistics_line(&store, line),
-        _ => report::refusal_line(header::refusal_of(words), line),
+        _ => report::refusal_line(line, header::refusal_of(words)),
     })
 }

@@ -328,8 +328,8 @@ impl Abstract {
 
     pub fn meet(
         self,
-        other: Abstract,
         constants: &[u32],
+        other: Abstract,
         meter: &mut Meter,
     ) -> Result<Abstract, Stop>
         ensures { answered_value result meter.new ≡ meet constants.now (value_of self) (value_of other) meter.old }
@@ -350,12 +350,12 @@ impl Abstract {
     // The part of a value whose numbers lie in an interval.
     pub fn refine(
         self,
-        interval: Interval,
         constants: &[u32],
+        interval: Interval,
         meter: &mut Meter,
     ) -> Result<Abstract, Stop>
         ensures { answered_value result meter.new ≡ refine constants.now (value_of self) interval meter.old }
     {
-        self.meet(Abstract::numeric(interval), constants, meter)
+        self.meet(constants, Abstract::numeric(interval), meter)
     }
 }

@@ -10,7 +10,7 @@ ghost use Rattle.lent.specs.Lent.{budget_of, After};
 use limits::{Limits, Resource, Statistics, Stop};
 
 // `count` live entries fewer.
-pub fn release(statistics: &mut Statistics, count: u64)
+pub fn release(count: u64, statistics: &mut Statistics)
     ensures { After (released count) statistics.old statistics.new }
 {
     statistics.entries = limits::release(statistics.entries, count);
@@ -25,10 +25,10 @@ pub fn widen(statistics: &mut Statistics)
 
 // A charge of one count. A refused one changes nothing.
 pub fn charge(
-    statistics: &mut Statistics,
-    limits: Limits,
     resource: Resource,
     amount: u64,
+    statistics: &mut Statistics,
+    limits: Limits,
 ) -> Result<(), Stop>
     ensures { answered result (budget_of limits statistics.new) ≡ charge resource amount (budget_of limits statistics.old) }
 {

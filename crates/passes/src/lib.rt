@@ -92,9 +92,9 @@ fn step(
     thresholds: &[i32],
     current: &[u32],
     candidates: &[u32],
-    argument: usize,
     next: &mut [u32],
     growth: &mut [u32],
+    argument: usize,
     budget: &mut Budget,
 ) -> Result<bool, Stop>
     ensures { answered result (steps budget.new next.new growth.new) ≡ step thresholds.now current.now candidates.now argument (steps budget.old next.old growth.old) }
@@ -129,7 +129,7 @@ fn advance(
 {
     let mut changed = false;
     for i in 0..count {
-        match step(thresholds, current, candidates, i, next, growth, budget) {
+        match step(thresholds, current, candidates, next, growth, i, budget) {
             Ok(moved) => changed |= moved,
             Err(stop) => {
                 rounds::without_rows(next, i, budget);

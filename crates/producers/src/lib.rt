@@ -93,7 +93,7 @@ impl Checker<'_> {
     }
 
     // A head: its expression, then its argument, which is recorded at once.
-    fn check_head(self, head: Head, store: &mut Store, table: &mut [u32]) -> Result<(), Refusal>
+    fn check_head(self, store: &mut Store, table: &mut [u32], head: Head) -> Result<(), Refusal>
         requires { (store.old.counts.positions ≤ 256) × Room 1 store.old.context store.old.counts.provenance }
         ensures { replied result (records store.new table.new) ≡ check_head (scope_in self.entry) head (records store.old table.old) }
     {
@@ -101,21 +101,21 @@ impl Checker<'_> {
         let checked = self.check_value(head.value, &mut meter);
         store.budget.settle(meter);
         checked?;
-        provenance::provenance(store, head.argument, table)
+        provenance::provenance(store, table, head.argument)
     }
 
     // All heads of a rule.
     fn check_heads(
         self,
-        heads: &[Head],
         store: &mut Store,
         table: &mut [u32],
+        heads: &[Head],
     ) -> Result<(), Refusal>
         requires { (length heads.now ≤ 16) × ((store.old.counts.positions ≤ 256) × Room (length heads.now) store.old.context store.old.counts.provenance) }
         ensures { replied result (records store.new table.new) ≡ check_heads (scope_in self.entry) heads.now (records store.old table.old) }
     {
         for head in heads {
-            self.check_head(*head, store, table)?;
+            self.check_head(store, table, *head)?;
         }
         Ok(())
     }
@@ -219,8 +219,8 @@ fn charge_rule(store: &mut Store, rule: &Rule) -> Result<(), Refusal>
 fn check_rule(
     store: &mut Store,
     nodes: &[u64],
-    rule: &Rule,
     table: &mut [u32],
+    rule: &Rule,
 ) -> Result<(), Refusal>
     requires { (shapely rule.now ≡ true) × ((store.old.counts.positions ≤ 256) × Room 16 store.old.context store.old.counts.provenance) }
     ensures { replied result (records store.new table.new) ≡ check_rule nodes.now rule.now (records store.old table.old) }
@@ -235,17 +235,17 @@ fn check_rule(
     let checked = checker.check_body(rule, &mut meter);
     store.budget.settle(meter);
     checked?;
-    checker.check_heads(&rule.heads[..rule.lengths.heads as usize], store, table)
+    checker.check_heads(store, table, &rule.heads[..rule.lengths.heads as usize])
 }
 
 // A rule: its id.
 #[tactic(auto, unfolding(crate::specs::Producer::rule_call))]
 pub fn rule(
     store: &mut Store,
-    rule: &Rule,
     nodes: &[u64],
     rules: &mut [u32],
     records: &mut [u32],
+    rule: &Rule,
 ) -> Result<usize, Refusal>
     ensures { replied result (tables store.new rules.new records.new) ≡ rule_call nodes.now rule.now (tables store.old rules.old records.old) }
 {
@@ -259,7 +259,7 @@ pub fn rule(
         return Err(Refusal::Full);
     }
     charge_rule(store, rule)?;
-    check_rule(store, nodes, rule, records)?;
+    check_rule(store, nodes, records, rule)?;
     let id = store.counts.rules;
     rules::put_rule(rules, id, *rule, store.context);
     store.counts.rules += 1;

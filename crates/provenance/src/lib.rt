@@ -30,7 +30,7 @@ fn put_record(table: &mut [u32], number: usize, argument: u32, context: u32)
 
 // An argument is produced under the context in force; the call has tested that there is room.
 #[tactic(auto, unfolding(crate::specs::Provenance::provenance))]
-pub fn provenance(store: &mut Store, argument: u64, table: &mut [u32]) -> Result<(), Refusal>
+pub fn provenance(store: &mut Store, table: &mut [u32], argument: u64) -> Result<(), Refusal>
     requires { (store.old.counts.positions ≤ 256) × Room 1 store.old.context store.old.counts.provenance }
     ensures { replied result (records store.new table.new) ≡ provenance argument (records store.old table.old) }
 {

@@ -67,9 +67,9 @@ fn is_integer(value: Abstract) -> bool
 
 // A value that holds numbers alone is narrowed, and dropped on every way out.
 pub fn narrow(
+    constants: &[u32],
     value: Abstract,
     restriction: Interval,
-    constants: &[u32],
     meter: &mut Meter,
 ) -> Result<Abstract, Stop>
     ensures { answered_value result meter.new ≡ narrow constants.now restriction (value_of value) meter.old }
@@ -77,7 +77,7 @@ pub fn narrow(
     if !is_integer(value) {
         return Ok(value);
     }
-    let narrowed = value.refine(restriction, constants, meter);
+    let narrowed = value.refine(constants, restriction, meter);
     meter.release(rows::entries_of(value));
     narrowed
 }
@@ -103,17 +103,17 @@ pub fn position(
 
 // The end of `expression`: what is known of an expression narrows its value.
 pub fn restrict(
-    value: Abstract,
     refinements: &[u32],
     count: usize,
-    id: u64,
     constants: &[u32],
+    value: Abstract,
+    id: u64,
     meter: &mut Meter,
 ) -> Result<Abstract, Stop>
     ensures { answered_value result meter.new ≡ restrict constants.now (refinements_of refinements.now count) id (value_of value) meter.old }
 {
     match position(refinements, count, id, meter) {
-        Ok(Some(k)) => narrow(value, restriction_at(refinements, k), constants, meter),
+        Ok(Some(k)) => narrow(constants, value, restriction_at(refinements, k), meter),
         Ok(None) => Ok(value),
         Err(stop) => {
             meter.release(rows::entries_of(value));
@@ -124,9 +124,9 @@ pub fn restrict(
 
 // The same of a numeric value, which has no list: its interval is all that changes.
 pub fn restrict_interval(
-    interval: Interval,
     refinements: &[u32],
     count: usize,
+    interval: Interval,
     id: u64,
     meter: &mut Meter,
 ) -> Result<Interval, Stop>

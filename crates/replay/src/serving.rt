@@ -50,8 +50,8 @@ impl Session {
                 let value = parts::expression(&mut self.reader, call)?;
                 let answer = expressions::expression(
                     &mut self.store,
-                    value,
                     &mut self.tables.nodes,
+                    value,
                 );
                 self.writer.answered(answer);
             }
@@ -83,10 +83,10 @@ impl Session {
         let tables = &mut self.tables;
         let answer = if call == 4 {
             self.store
-                .predicate(first, &mut tables.predicates, &mut tables.seeds)
+                .predicate(&mut tables.predicates, &mut tables.seeds, first)
         } else {
             let position = self.reader.wide()?;
-            self.store.argument(first, position, &tables.predicates)
+            self.store.argument(&tables.predicates, first, position)
         };
         self.writer.answered(answer);
         Ok(())
@@ -104,11 +104,11 @@ impl Session {
         let tables = &mut self.tables;
         let answer = constants::constant(
             &mut self.store,
-            key,
             &mut tables.names,
             &mut tables.constants,
             &mut tables.order,
             &mut tables.thresholds,
+            key,
         );
         self.writer.answered(answer);
         Ok(())
@@ -122,23 +122,23 @@ impl Session {
             let value = self.reader.wide()?;
             seeds::seed_value(
                 &mut self.store,
-                argument,
-                value,
                 &tables.constants,
                 &mut tables.seeds,
                 &mut tables.records,
+                argument,
+                value,
             )
         } else {
             let low = self.reader.signed()?;
             let high = self.reader.signed()?;
             seeds::seed_interval(
                 &mut self.store,
-                argument,
-                low,
-                high,
                 &mut tables.seeds,
                 &mut tables.records,
                 &mut tables.thresholds,
+                argument,
+                low,
+                high,
             )
         };
         self.writer.done(answer);
@@ -150,10 +150,10 @@ impl Session {
         let tables = &mut self.tables;
         let answer = producers::rule(
             &mut self.store,
-            &rule,
             &tables.nodes,
             &mut tables.rules,
             &mut tables.records,
+            &rule,
         );
         self.writer.answered(answer);
         Ok(())
@@ -200,8 +200,8 @@ impl Session {
         let written = report::argument_line(
             &self.store,
             &self.tables.arguments,
-            argument,
             &mut line,
+            argument,
         );
         self.writer.line(written, &line);
     }
@@ -220,10 +220,10 @@ impl Session {
             &self.store,
             &tables.rules,
             &tables.slots,
+            &mut line,
             rule,
             slot,
             after,
-            &mut line,
         );
         self.writer.line(written, &line);
     }

@@ -53,7 +53,7 @@ impl Writer {
 
     pub fn refused(&mut self, refusal: Refusal) {
         let mut line = [0; report::LINE];
-        if let Ok(len) = report::refusal_line(refusal, &mut line) {
+        if let Ok(len) = report::refusal_line(&mut line, refusal) {
             self.put(&line[..len.min(report::LINE)]);
         }
     }

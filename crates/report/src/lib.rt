@@ -133,8 +133,8 @@ pub fn status_line(store: &Store, line: &mut [u8]) -> Result<usize, Refusal>
 pub fn argument_line(
     store: &Store,
     arguments: &[u32],
-    argument: u64,
     line: &mut [u8],
+    argument: u64,
 ) -> Result<usize, Refusal>
     ensures { written result line.new ≡ on_buffer line.old (argument_line store.now arguments.now argument) }
 {
@@ -150,10 +150,10 @@ pub fn slot_line(
     store: &Store,
     rules: &[u32],
     slots: &[u32],
+    line: &mut [u8],
     rule: u64,
     slot: u64,
     after: bool,
-    line: &mut [u8],
 ) -> Result<usize, Refusal>
     ensures { written result line.new ≡ on_buffer line.old (slot_line store.now rules.now slots.now rule slot after) }
 {
@@ -175,7 +175,7 @@ pub fn statistics_line(store: &Store, line: &mut [u8]) -> Result<usize, Refusal>
 }
 
 // A refusal as the line of a job. A buffer of another size meets 1.
-pub fn refusal_line(refusal: Refusal, line: &mut [u8]) -> Result<usize, Refusal>
+pub fn refusal_line(line: &mut [u8], refusal: Refusal) -> Result<usize, Refusal>
     ensures { written result line.new ≡ on_buffer line.old (refusal_line refusal) }
 {
     if line.len() != LINE {

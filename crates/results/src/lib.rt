@@ -41,9 +41,9 @@ fn put_bound(cells: &mut [u32], id: usize, slot: usize, after: bool, bound: Boun
 fn keep(
     values: &[u32],
     count: usize,
+    bounds: &mut [u32],
     id: usize,
     after: bool,
-    bounds: &mut [u32],
     meter: &mut Meter,
 ) -> Result<(), Stop>
     ensures { answered result (slots meter.new bounds.new) ≡ keep values.now id after 0 count (slots meter.old bounds.old) }
@@ -58,15 +58,15 @@ fn keep(
 // Both bounds of each slot: all before guards, then all after them.
 fn keep_both(
     locals: &Locals,
+    bounds: &mut [u32],
     count: usize,
     id: usize,
-    bounds: &mut [u32],
     meter: &mut Meter,
 ) -> Result<(), Stop>
     ensures { answered result (slots meter.new bounds.new) ≡ keep_both locals.now.domains.now locals.now.produced.now count id (slots meter.old bounds.old) }
 {
-    keep(locals.domains, count, id, false, bounds, meter)?;
-    keep(locals.produced, count, id, true, bounds, meter)
+    keep(locals.domains, count, bounds, id, false, meter)?;
+    keep(locals.produced, count, bounds, id, true, meter)
 }
 
 // The task of the result: the bounds of a rule's slots.
@@ -81,13 +81,13 @@ impl Task for Bounding {
     fn apply(
         &self,
         given: &Given,
-        id: usize,
         locals: &Locals,
         table: &mut [u32],
+        id: usize,
         meter: &mut Meter,
     ) -> Result<(), Stop> {
         let count = rules::slots_at(given.rules, id) as usize;
-        keep_both(locals, count, id, table, meter)
+        keep_both(locals, table, count, id, meter)
     }
 }
 

@@ -62,9 +62,9 @@ pub trait Task {
     fn apply(
         &self,
         given: &Given,
-        id: usize,
         locals: &Locals,
         table: &mut [u32],
+        id: usize,
         meter: &mut Meter,
     ) -> Result<(), Stop>
         ensures { answered result (slots meter.new table.new) ≡ does self.now (given_in given.now) id (locals_in locals.now) (slots meter.old table.old) };
@@ -74,11 +74,11 @@ pub trait Task {
 fn fill(
     input: &Input,
     rules: &[u32],
-    id: usize,
     arguments: &[u32],
     domains: &mut [u32],
     produced: &mut [u32],
     refinements: &mut [u32],
+    id: usize,
     meter: &mut Meter,
 ) -> Result<usize, Stop>
     ensures { answered result (frame meter.new domains.new produced.new refinements.new) ≡ fill (input_in input.now) rules.now id arguments.now (frame meter.old domains.old produced.old refinements.old) }
@@ -87,11 +87,11 @@ fn fill(
     transfer::rule(
         input,
         rules,
-        id,
         arguments,
         domains,
         produced,
         refinements,
+        id,
         meter,
     )
 }
@@ -100,9 +100,9 @@ fn fill(
 fn with_locals<T: Task>(
     task: &T,
     given: &Given,
-    id: usize,
     arguments: &[u32],
     table: &mut [u32],
+    id: usize,
     meter: &mut Meter,
 ) -> Result<(), Stop>
     ensures { answered result (slots meter.new table.new) ≡ with_locals (input_in given.now.input) given.now.rules.now id arguments.now (T.does task.now (given_in given.now) id) (slots meter.old table.old) }
@@ -113,11 +113,11 @@ fn with_locals<T: Task>(
     let recorded = fill(
         &given.input,
         given.rules,
-        id,
         arguments,
         &mut domains,
         &mut produced,
         &mut refinements,
+        id,
         meter,
     )?;
     let locals = Locals {
@@ -126,7 +126,7 @@ fn with_locals<T: Task>(
         refinements: &refinements,
         recorded,
     };
-    let done = task.apply(given, id, &locals, table, meter);
+    let done = task.apply(given, &locals, table, id, meter);
     let count = rules::slots_at(given.rules, id) as usize;
     slots::drop_rows(&produced, count, meter);
     slots::drop_rows(&domains, count, meter);
@@ -146,7 +146,7 @@ pub fn each_rule<T: Task>(
     for id in 0..given.count {
         course.context = rules::context_at(given.rules, id);
         let mut meter = course.budget.meter();
-        let done = with_locals(task, given, id, arguments, table, &mut meter);
+        let done = with_locals(task, given, arguments, table, id, &mut meter);
         course.budget.settle(meter);
         done?;
     }
@@ -189,8 +189,8 @@ fn join_owned(
 fn join_head(
     input: &Input,
     locals: &Locals,
-    head: Head,
     res: &mut [u32],
+    head: Head,
     meter: &mut Meter,
 ) -> Result<(), Stop>
     ensures { answered result (slots meter.new res.new) ≡ step (join_head (input_in input.now) locals.now.produced.now locals.now.refinements.now locals.now.recorded head) (slots meter.old res.old) }
@@ -219,14 +219,14 @@ impl Task for Joining {
     fn apply(
         &self,
         given: &Given,
-        id: usize,
         locals: &Locals,
         table: &mut [u32],
+        id: usize,
         meter: &mut Meter,
     ) -> Result<(), Stop> {
         for j in 0..rules::head_count(given.rules, id) {
             let head = rules::head_at(given.rules, id, j);
-            join_head(&given.input, locals, head, table, meter)?;
+            join_head(&given.input, locals, table, head, meter)?;
         }
         Ok(())
     }

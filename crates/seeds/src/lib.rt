@@ -22,7 +22,7 @@ pub fn is_lost(old: Abstract, new: Abstract) -> bool
 }
 
 // What is left after a join: the old seed and the value are dropped.
-fn drop_both(budget: &mut Budget, old: Abstract, value: Abstract, new: Abstract)
+fn drop_both(old: Abstract, value: Abstract, new: Abstract, budget: &mut Budget)
     ensures { budget.new ≡ dropped (value_of old) (value_of value) (value_of new) budget.old }
 {
     if is_lost(old, new) {
@@ -41,16 +41,16 @@ fn join_seed(old: Abstract, value: Abstract, budget: &mut Budget) -> Result<Abst
     let joined = meter.holding(held, answer);
     budget.settle(meter);
     let new = joined?;
-    drop_both(budget, old, value, new);
+    drop_both(old, value, new, budget);
     Ok(new)
 }
 
 // A value becomes part of the seed of an argument.
 fn seed(
     store: &mut Store,
+    seeds: &mut [u32],
     argument: usize,
     value: Abstract,
-    seeds: &mut [u32],
 ) -> Result<(), Refusal>
     ensures { replied result (rows store.new seeds.new) ≡ seed argument (value_of value) (rows store.old seeds.old) }
 {
@@ -74,15 +74,15 @@ fn constant_value(constants: &[u32], id: u16, budget: &mut Budget) -> Result<Abs
 // A constant becomes part of the seed of an argument.
 fn seed_constant(
     store: &mut Store,
-    argument: usize,
-    id: u16,
     constants: &[u32],
     seeds: &mut [u32],
+    argument: usize,
+    id: u16,
 ) -> Result<(), Refusal>
     ensures { replied result (rows store.new seeds.new) ≡ seed_constant constants.now argument id (rows store.old seeds.old) }
 {
     let value = constant_value(constants, id, &mut store.budget)?;
-    seed(store, argument, value, seeds)
+    seed(store, seeds, argument, value)
 }
 
 // The sizes of the tables that both calls are lent.
@@ -104,11 +104,11 @@ fn has_room(store: &Store) -> bool
 #[tactic(auto, unfolding(crate::specs::Seed::seed_value_call))]
 pub fn seed_value(
     store: &mut Store,
-    argument: u64,
-    value: u64,
     constants: &[u32],
     seeds: &mut [u32],
     records: &mut [u32],
+    argument: u64,
+    value: u64,
 ) -> Result<(), Refusal>
     ensures { replied result (tables store.new seeds.new records.new) ≡ seed_value_call constants.now argument value (tables store.old seeds.old records.old) }
 {
@@ -125,46 +125,46 @@ pub fn seed_value(
     if store.counts.constants as u64 <= value {
         return Err(Refusal::Missing);
     }
-    provenance::provenance(store, argument, records)?;
-    seed_constant(store, argument as usize, value as u16, constants, seeds)
+    provenance::provenance(store, records, argument)?;
+    seed_constant(store, constants, seeds, argument as usize, value as u16)
 }
 
 // The thresholds of an interval's ends.
-fn mark_ends(store: &mut Store, low: i32, high: i32, thresholds: &mut [i32]) -> Result<(), Refusal>
+fn mark_ends(store: &mut Store, thresholds: &mut [i32], low: i32, high: i32) -> Result<(), Refusal>
     requires { store.old.counts.thresholds + 6 ≤ length thresholds.old }
     ensures { replied result (marks store.new thresholds.new) ≡ marking low high (marks store.old thresholds.old) }
 {
-    store.enter(low, thresholds)?;
-    store.enter(high, thresholds)
+    store.enter(thresholds, low)?;
+    store.enter(thresholds, high)
 }
 
 // An interval becomes part of the seed of an argument, its thresholds first.
 fn seed_ends(
     store: &mut Store,
+    seeds: &mut [u32],
+    thresholds: &mut [i32],
     argument: usize,
     low: i32,
     high: i32,
-    seeds: &mut [u32],
-    thresholds: &mut [i32],
 ) -> Result<(), Refusal>
     requires { store.old.counts.thresholds + 6 ≤ length thresholds.old }
     ensures { replied result (ends store.new seeds.new thresholds.new) ≡ seed_ends argument low high (ends store.old seeds.old thresholds.old) }
 {
-    mark_ends(store, low, high, thresholds)?;
+    mark_ends(store, thresholds, low, high)?;
     let value = Abstract::numeric(Interval::Bounded { low, high });
-    seed(store, argument, value, seeds)
+    seed(store, seeds, argument, value)
 }
 
 // An interval is seeded to an argument.
 #[tactic(auto, unfolding(crate::specs::Seed::seed_interval_call))]
 pub fn seed_interval(
     store: &mut Store,
-    argument: u64,
-    low: i32,
-    high: i32,
     seeds: &mut [u32],
     records: &mut [u32],
     thresholds: &mut [i32],
+    argument: u64,
+    low: i32,
+    high: i32,
 ) -> Result<(), Refusal>
     ensures { replied result (interval_tables store.new seeds.new records.new thresholds.new) ≡ seed_interval_call argument low high (interval_tables store.old seeds.old records.old thresholds.old) }
 {
@@ -181,6 +181,6 @@ pub fn seed_interval(
     if high < low {
         return Err(Refusal::Descending);
     }
-    provenance::provenance(store, argument, records)?;
-    seed_ends(store, argument as usize, low, high, seeds, thresholds)
+    provenance::provenance(store, records, argument)?;
+    seed_ends(store, seeds, thresholds, argument as usize, low, high)
 }

@@ -35,14 +35,14 @@ fn settle(cells: &mut [u32], slot: usize, new: Abstract, meter: &mut Meter)
 // A slot's value becomes what it has in common with another.
 pub fn meet_into(
     cells: &mut [u32],
+    constants: &[u32],
     slot: usize,
     value: Abstract,
-    constants: &[u32],
     meter: &mut Meter,
 ) -> Result<(), Stop>
     ensures { answered result (slots meter.new cells.new) ≡ meet_into constants.now slot (value_of value) (slots meter.old cells.old) }
 {
-    let new = rows::abstract_at(cells, slot).meet(value, constants, meter)?;
+    let new = rows::abstract_at(cells, slot).meet(constants, value, meter)?;
     settle(cells, slot, new, meter);
     Ok(())
 }
@@ -50,14 +50,14 @@ pub fn meet_into(
 // The same with a value in hand, which is dropped on every way out.
 pub fn meet_owned(
     cells: &mut [u32],
+    constants: &[u32],
     slot: usize,
     value: Abstract,
-    constants: &[u32],
     meter: &mut Meter,
 ) -> Result<(), Stop>
     ensures { answered result (slots meter.new cells.new) ≡ meet_owned constants.now slot (value_of value) (slots meter.old cells.old) }
 {
-    let met = meet_into(cells, slot, value, constants, meter);
+    let met = meet_into(cells, constants, slot, value, meter);
     meter.release(rows::entries_of(value));
     met
 }
@@ -65,14 +65,14 @@ pub fn meet_owned(
 // A slot's value keeps the numbers of an interval alone.
 pub fn refine_into(
     cells: &mut [u32],
+    constants: &[u32],
     slot: usize,
     interval: Interval,
-    constants: &[u32],
     meter: &mut Meter,
 ) -> Result<(), Stop>
     ensures { answered result (slots meter.new cells.new) ≡ refine_into constants.now slot interval (slots meter.old cells.old) }
 {
-    let new = rows::abstract_at(cells, slot).refine(interval, constants, meter)?;
+    let new = rows::abstract_at(cells, slot).refine(constants, interval, meter)?;
     settle(cells, slot, new, meter);
     Ok(())
 }
@@ -91,9 +91,9 @@ pub fn fill_tops(cells: &mut [u32], count: usize, meter: &mut Meter) -> Result<(
 // A positive binding: its slot meets its argument.
 fn meet_argument(
     cells: &mut [u32],
-    binding: Binding,
     arguments: &[u32],
     constants: &[u32],
+    binding: Binding,
     meter: &mut Meter,
 ) -> Result<(), Stop>
     ensures { answered result (slots meter.new cells.new) ≡ step (meet_argument constants.now arguments.now binding) (slots meter.old cells.old) }
@@ -101,7 +101,7 @@ fn meet_argument(
     meter.work(1)?;
     if let Binding::Positive { slot, argument } = binding {
         let value = rows::abstract_at(arguments, argument as usize);
-        return meet_into(cells, slot as usize, value, constants, meter);
+        return meet_into(cells, constants, slot as usize, value, meter);
     }
     Ok(())
 }
@@ -110,16 +110,16 @@ fn meet_argument(
 pub fn meet_arguments(
     cells: &mut [u32],
     rules: &[u32],
-    id: usize,
     arguments: &[u32],
     constants: &[u32],
+    id: usize,
     meter: &mut Meter,
 ) -> Result<(), Stop>
     ensures { answered result (slots meter.new cells.new) ≡ each (meet_argument constants.now arguments.now) (bindings_at rules.now id) (slots meter.old cells.old) }
 {
     for j in 0..rules::binding_count(rules, id) {
         let binding = rules::binding_at(rules, id, j);
-        meet_argument(cells, binding, arguments, constants, meter)?;
+        meet_argument(cells, arguments, constants, binding, meter)?;
     }
     Ok(())
 }

@@ -57,7 +57,7 @@ fn has_room(predicates: usize, positions: usize, arity: u64) -> bool
 }
 
 // The charges of a new predicate beside its first unit of work: all of them or none.
-fn declare(budget: &mut Budget, arity: u64) -> Result<(), Stop>
+fn declare(arity: u64, budget: &mut Budget) -> Result<(), Stop>
     ensures { answered result budget.new ≡ declared arity budget.old }
 {
     let mut paid = *budget;
@@ -135,7 +135,7 @@ impl Store {
     }
 
     // A number and its neighbours become thresholds; the call has tested that there is room for three more.
-    pub fn enter(&mut self, value: i32, table: &mut [i32]) -> Result<(), Refusal>
+    pub fn enter(&mut self, table: &mut [i32], value: i32) -> Result<(), Refusal>
         requires { self.old.counts.thresholds + 3 ≤ length table.old }
         ensures { replied result (marks self.new table.new) ≡ entering (around value) (marks self.old table.old) }
     {
@@ -158,9 +158,9 @@ impl Store {
     #[tactic(auto, unfolding(crate::specs::Calls::argument_call))]
     pub fn argument(
         &self,
+        predicates: &[u32],
         predicate: u64,
         position: u64,
-        predicates: &[u32],
     ) -> Result<usize, Refusal>
         ensures { replied result self.now ≡ argument_call predicate position predicates.now self.now }
     {
@@ -186,9 +186,9 @@ impl Store {
     #[tactic(auto, unfolding(crate::specs::Calls::predicate_call))]
     pub fn predicate(
         &mut self,
-        arity: u64,
         predicates: &mut [u32],
         seeds: &mut [u32],
+        arity: u64,
     ) -> Result<usize, Refusal>
         ensures { replied result (tables self.new predicates.new seeds.new) ≡ predicate_call arity (tables self.old predicates.old seeds.old) }
     {
@@ -204,7 +204,7 @@ impl Store {
             return Err(Refusal::Full);
         }
         self.pay(Resource::Work, 1)?;
-        declare(&mut self.budget, arity)?;
+        declare(arity, &mut self.budget)?;
         cells::put_cell(predicates, 2 * id, start as u32);
         cells::put_cell(predicates, 2 * id + 1, arity as u32);
         clear_seeds(seeds, start, arity as usize);

@@ -21,7 +21,7 @@ fn seek_number(
 }
 
 // What a new threshold costs: the cells that move and its own, and a link.
-fn pay(budget: &mut Budget, cells: u64) -> Result<(), Stop>
+fn pay(cells: u64, budget: &mut Budget) -> Result<(), Stop>
     ensures { answered result budget.new ≡ cost cells budget.old }
 {
     budget.pay(Resource::Work, cells)?;
@@ -42,7 +42,7 @@ pub fn enter(
     let sought = seek_number(table, *count, value, &mut meter);
     budget.settle(meter);
     if let Err(place) = sought? {
-        pay(budget, (*count - place + 1) as u64)?;
+        pay((*count - place + 1) as u64, budget)?;
         search::insert(table, place, *count, value);
         *count += 1;
     }

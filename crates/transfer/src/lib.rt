@@ -21,17 +21,17 @@ pub const REFINEMENTS: usize = 64;
 pub fn rule(
     input: &Input,
     rules: &[u32],
-    id: usize,
     arguments: &[u32],
     domains: &mut [u32],
     produced: &mut [u32],
     refinements: &mut [u32],
+    id: usize,
     meter: &mut Meter,
 ) -> Result<usize, Stop>
     ensures { answered result (frame meter.new domains.new produced.new refinements.new) ≡ rule (input_in input.now) rules.now id arguments.now (frame meter.old domains.old produced.old refinements.old) }
 {
-    bindings::bind(domains, rules, id, arguments, input, meter)?;
-    let guarded = guards::guard(domains, produced, refinements, rules, id, input, meter);
+    bindings::bind(input, domains, rules, arguments, id, meter)?;
+    let guarded = guards::guard(input, domains, produced, refinements, rules, id, meter);
     if guarded.is_err() {
         slots::drop_rows(domains, rules::slots_at(rules, id) as usize, meter);
     }
