@@ -16,7 +16,8 @@ use Rattle.limits.proofs.Ends.{Ends, ends_then, ends_bind}
 use Rattle.limits.proofs.Live.{Lives, live_bind}
 use Rattle.interval.specs.declared.Interval.TheVariants.{Unbounded}
 use Rattle.lattice.specs.Value.{Value}
-use Rattle.rows.specs.Row.{row, entries_of}
+use Rattle.sizes.specs.Sizes.{value_row}
+use Rattle.rows.specs.Row.{entries_of}
 use Rattle.rows.proofs.Good.{Good, top_good, numeric_good}
 use Rattle.rules.specs.declared.AggregateFunction.{AggregateFunction}
 use Rattle.rules.specs.declared.AggregateFunction.TheVariants.{Count, Sum, SumPlus, Min, Max}
@@ -111,7 +112,7 @@ module _ (i : Input) (small : All (λ c. c < 2 ^ 32) i.constants) {n : ℕ} wher
         all [] h = tt
         all (b ∷ l) h = (keeps_binding b h.0, all l h.1)
 
-    pub bind_ends : (e : ℕ) (s : Slots) → row * n ≤ length s.rows → Formed s.rows → s.meter.entries ≡ e → Ends (λ _ t. Held n e t) (λ _ t. t.meter.entries ≡ e) (bind i arguments n bs s)
+    pub bind_ends : (e : ℕ) (s : Slots) → value_row * n ≤ length s.rows → Formed s.rows → s.meter.entries ≡ e → Ends (λ _ t. Held n e t) (λ _ t. t.meter.entries ≡ e) (bind i arguments n bs s)
     unfolding bind total
     bind_ends e s room f q =
         ends_then {P = λ _ t. Held (0 + n) e t} {Q = λ _ t. t.meter.entries ≡ s.meter.entries} (tops 0 n) (holding_rows n (passes i arguments bs)) s

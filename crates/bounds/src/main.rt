@@ -13,17 +13,17 @@ use store::Store;
 #[derive(Drop)]
 struct Design {
     store: Store,
-    names: [u8; 65536],
-    constants: [u32; 2048],
-    order: [u32; 1024],
-    thresholds: [i32; 4096],
-    nodes: [u64; nodes::ROW * 1024],
-    predicates: [u32; 128],
-    seeds: [u32; rounds::ARGUMENTS],
-    records: [u32; 2048],
-    rules: [u32; rules::ROW * 256],
-    arguments: [u32; rounds::ARGUMENTS],
-    slots: [u32; results::BOUNDS],
+    names: [u8; sizes::NAME_CELLS],
+    constants: [u32; sizes::CONSTANT_CELLS],
+    order: [u32; sizes::CONSTANTS],
+    thresholds: [i32; sizes::THRESHOLDS],
+    nodes: [u64; sizes::NODE_CELLS],
+    predicates: [u32; sizes::PREDICATE_CELLS],
+    seeds: [u32; sizes::ARGUMENT_CELLS],
+    records: [u32; sizes::RECORD_CELLS],
+    rules: [u32; sizes::RULE_CELLS],
+    arguments: [u32; sizes::ARGUMENT_CELLS],
+    slots: [u32; sizes::BOUNDS_CELLS],
 }
 
 impl Design {
@@ -31,17 +31,17 @@ impl Design {
     fn new(store: Store) -> Design {
         Design {
             store,
-            names: [0; 65536],
-            constants: [0; 2048],
-            order: [0; 1024],
-            thresholds: [0; 4096],
-            nodes: [0; nodes::ROW * 1024],
-            predicates: [0; 128],
-            seeds: [0; rounds::ARGUMENTS],
-            records: [0; 2048],
-            rules: [0; rules::ROW * 256],
-            arguments: [0; rounds::ARGUMENTS],
-            slots: [0; results::BOUNDS],
+            names: [0; sizes::NAME_CELLS],
+            constants: [0; sizes::CONSTANT_CELLS],
+            order: [0; sizes::CONSTANTS],
+            thresholds: [0; sizes::THRESHOLDS],
+            nodes: [0; sizes::NODE_CELLS],
+            predicates: [0; sizes::PREDICATE_CELLS],
+            seeds: [0; sizes::ARGUMENT_CELLS],
+            records: [0; sizes::RECORD_CELLS],
+            rules: [0; sizes::RULE_CELLS],
+            arguments: [0; sizes::ARGUMENT_CELLS],
+            slots: [0; sizes::BOUNDS_CELLS],
         }
     }
 

@@ -1,4 +1,5 @@
 -- What the code's answers are, over plain variables: each way out of a function, by the tests that lead to it.
+use Rattle.sizes.specs.Sizes as size
 use Prim.Native.Nat.{ℕ, ◌+◌, ◌-◌, ◌<◌, ◌≤◌}
 use native.Mathlib.Omega.{arith}
 use mathlib.Core.Path.{◌≡◌, refl, sym, ap, ◌∙◌}
@@ -35,14 +36,14 @@ use Rattle.constants.specs.Constant.{bytes_of, retains, classify, cost, settle, 
 -- ---- refusals 1 and 2
 
 module _ (n c o t : ℕ) where
-  pub sizes_yes : sizes n c o t ≡ true → (n ≡ 65536) × (c ≡ 2048) × (o ≡ 1024) × (t ≡ 4096)
+  pub sizes_yes : sizes n c o t ≡ true → (n ≡ size.name_cells) × (c ≡ size.constant_cells) × (o ≡ size.constants) × (t ≡ size.thresholds)
   sizes_yes h =
-      let j = and_right (eqb n 65536) _ h in
-      let k = and_right (eqb c 2048) _ j in
-      (eqb-true n 65536 (and_left (eqb n 65536) _ h), eqb-true c 2048 (and_left (eqb c 2048) _ j), eqb-true o 1024 (and_left (eqb o 1024) _ k), eqb-true t 4096 (and_right (eqb o 1024) _ k))
+      let j = and_right (eqb n size.name_cells) _ h in
+      let k = and_right (eqb c size.constant_cells) _ j in
+      (eqb-true n size.name_cells (and_left (eqb n size.name_cells) _ h), eqb-true c size.constant_cells (and_left (eqb c size.constant_cells) _ j), eqb-true o size.constants (and_left (eqb o size.constants) _ k), eqb-true t size.thresholds (and_right (eqb o size.constants) _ k))
 
 module _ (n : Counts) where
-  pub room_yes : spacious n ≡ true → (n.constants < 1024) × ((n.keys < 1024) × (n.thresholds ≤ 4088))
+  pub room_yes : spacious n ≡ true → (n.constants < 1024) × ((n.keys < 1024) × (n.thresholds ≤ size.thresholds_before_call))
   room_yes h =
       let k = and_right (ltb n.constants 1024) _ h in
       (ltb-true _ _ (and_left (ltb n.constants 1024) _ h), (ltb-true _ _ (and_left (ltb n.keys 1024) _ k), leb-true _ _ (and_right (ltb n.keys 1024) _ k)))

@@ -1,4 +1,5 @@
 -- What the call of a key leaves, whichever way it ends: the constants and the thresholds in order, all that stood as it stood.
+use Rattle.sizes.specs.Sizes as size
 use Prim.Native.Nat.{ℕ, ◌+◌, ◌-◌, ◌*◌, ◌≤◌, ◌<◌}
 use native.Mathlib.Omega.{arith}
 use mathlib.Core.Path.{◌≡◌, refl, ◌∙◌}
@@ -396,10 +397,10 @@ module _ (k : Key) (typed : Typed k) (t : Tables) (keyed : Keyed t.header.counts
   admitted z l r =
       on_then _ _ _ _ _ (in_marks (classify k) >> in_keys (retain k)) t (pays (spends_work 1) t.header) (λ _ s c. charged_once c) (λ e s c. declined k t e c.0 (still_charge k t (still_none k t rises) c.1))
     where
-      lengths : (length t.names ≡ 65536) × (length t.constants ≡ 2048) × (length t.order ≡ 1024) × (length t.thresholds ≡ 4096)
+      lengths : (length t.names ≡ size.name_cells) × (length t.constants ≡ size.constant_cells) × (length t.order ≡ size.constants) × (length t.thresholds ≡ size.thresholds)
       lengths = sizes_yes _ _ _ _ z
 
-      counts : (t.header.counts.constants < 1024) × ((t.header.counts.keys < 1024) × (t.header.counts.thresholds ≤ 4088))
+      counts : (t.header.counts.constants < 1024) × ((t.header.counts.keys < 1024) × (t.header.counts.thresholds ≤ size.thresholds_before_call))
       counts = room_yes t.header.counts r
 
       room : Room t.header.counts.constants t.header.counts.keys t.names t.constants t.order

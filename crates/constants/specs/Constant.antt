@@ -1,5 +1,6 @@
 -- `Input::constant`, on the header and the lent tables as they stand, with the reader of 01.
 use Rattle.std.specs.Prelude.{ℕ, ◌+◌, ◌-◌, Bool, true, cond, ◌&&◌, List, [], leb, ltb, eqb, ℤ, length, get_or}
+use Rattle.sizes.specs.Sizes as size
 use Rattle.integers.specs.Lists.{inserted}
 use Rattle.limits.specs.declared.Limits.{Limits}
 use Rattle.limits.specs.declared.Stop.{Stop}
@@ -113,16 +114,16 @@ in_header = zoom (λ t. t.header) (λ s t. tables s t.names t.constants t.order 
 
 -- 01, refusal 1: "a name store or other lent table of another size"
 abbrev pub sizes : ℕ → ℕ → ℕ → ℕ → Bool
-sizes names constants order thresholds = eqb names 65536 && (eqb constants 2048 && (eqb order 1024 && eqb thresholds 4096))
+sizes names constants order thresholds = eqb names size.name_cells && (eqb constants size.constant_cells && (eqb order size.constants && eqb thresholds size.thresholds))
 
 -- 01, refusal 2: "1,024 constants", "4,096 thresholds (`constant` and `seed_interval` need at most 4,088 standing)"
 abbrev pub spacious : Counts → Bool
-spacious n = ltb n.constants 1024 && (ltb n.keys 1024 && leb n.thresholds 4088)
+spacious n = ltb n.constants size.constants && (ltb n.keys size.constants && leb n.thresholds size.thresholds_before_call)
 
 unfoldable pub constant_call : Key → Metered Told Tables ℕ
 constant_call k =
     unless (λ t. sizes (length t.names) (length t.constants) (length t.order) (length t.thresholds)) Shape
-    (unless (λ t. leb (length (bytes_of k)) 64) Shape
+    (unless (λ t. leb (length (bytes_of k)) size.name) Shape
     (unless (λ t. open? t.header) Closed
     (unless (λ t. spacious t.header.counts) Full
     (in_header (charged (work 1)) >> in_marks (classify k) >> in_keys (retain k)))))

@@ -2,6 +2,7 @@
 #![tactic(auto)]
 
 ghost use Rattle.std.specs.Prelude.{◌≡◌, ◌+◌, ◌≤◌, List, ℕ, length};
+ghost use Rattle.sizes.specs.Sizes as size;
 ghost use Rattle.limits.specs.Metered.{answered, going};
 ghost use Rattle.limits.specs.Refusal.{replied};
 ghost use Rattle.store.specs.Calls.{marks};
@@ -13,24 +14,23 @@ use keys::Key;
 use limits::{Budget, Refusal, Resource, Stop};
 use store::{Counts, Store};
 
-// The constants that the tables have rows for.
-pub const CONSTANTS: usize = 1024;
-
 // The tables' sizes.
 fn sized(names: usize, constants: usize, order: usize, thresholds: usize) -> bool
     ensures { result ≡ sizes names constants order thresholds }
 {
-    names == 64 * CONSTANTS
-        && constants == 2 * CONSTANTS
-        && order == CONSTANTS
-        && thresholds == 4096
+    names == sizes::NAME_CELLS
+        && constants == sizes::CONSTANT_CELLS
+        && order == sizes::CONSTANTS
+        && thresholds == sizes::THRESHOLDS
 }
 
 // Whether the tables have room for one constant more.
 fn room(counts: Counts) -> bool
     ensures { result ≡ spacious counts }
 {
-    counts.constants < CONSTANTS && counts.keys < CONSTANTS && counts.thresholds <= 4088
+    counts.constants < sizes::CONSTANTS
+        && counts.keys < sizes::CONSTANTS
+        && counts.thresholds <= sizes::THRESHOLDS_BEFORE_CALL
 }
 
 // What is stored of a key in the name store.
@@ -45,7 +45,7 @@ fn bytes_of<'a>(key: Key<'a>) -> &'a [u8]
 
 // The two cells of a key.
 fn cells_of(key: Key<'_>) -> (u32, u32)
-    requires { length (bytes_of (key_of key)) ≤ 64 }
+    requires { length (bytes_of (key_of key)) ≤ size.name }
     ensures kind { result.0 ≡ kind_of (key_of key.entry) }
     ensures payload { result.1 ≡ payload_of (key_of key.entry) }
 {
@@ -90,7 +90,7 @@ fn add(
     low: usize,
     key: Key<'_>,
 ) -> usize
-    requires { (store.old.counts.constants ≤ 1024) × ((store.old.counts.keys ≤ 1024) × (length (bytes_of (key_of key)) ≤ 64)) }
+    requires { (store.old.counts.constants ≤ size.constants) × ((store.old.counts.keys ≤ size.constants) × (length (bytes_of (key_of key)) ≤ size.name)) }
     ensures { going result (key_tables store.new names.new constants.new order.new) ≡ add_key (key_of key.entry) low (key_tables store.old names.old constants.old order.old) }
 {
     let id = store.counts.constants;
@@ -112,7 +112,7 @@ fn enroll(
     low: usize,
     key: Key<'_>,
 ) -> Result<usize, Refusal>
-    requires { (low ≤ store.old.counts.keys) × ((store.old.counts.constants ≤ 1024) × ((store.old.counts.keys ≤ 1024) × (length (bytes_of (key_of key)) ≤ 64))) }
+    requires { (low ≤ store.old.counts.keys) × ((store.old.counts.constants ≤ size.constants) × ((store.old.counts.keys ≤ size.constants) × (length (bytes_of (key_of key)) ≤ size.name))) }
     ensures { replied result (key_tables store.new names.new constants.new order.new) ≡ settle (key_of key.entry) store.old.counts.keys (absent low) (key_tables store.old names.old constants.old order.old) }
 {
     let moved = (store.counts.keys - low) as u64;
@@ -128,7 +128,7 @@ fn keep(
     order: &mut [u32],
     key: Key<'_>,
 ) -> Result<usize, Refusal>
-    requires { (store.old.counts.constants ≤ 1024) × ((store.old.counts.keys ≤ 1024) × (length (bytes_of (key_of key)) ≤ 64)) }
+    requires { (store.old.counts.constants ≤ size.constants) × ((store.old.counts.keys ≤ size.constants) × (length (bytes_of (key_of key)) ≤ size.name)) }
     ensures { replied result (key_tables store.new names.new constants.new order.new) ≡ keep (key_of key.entry) (key_tables store.old names.old constants.old order.old) }
 {
     let mut meter = store.budget.meter();
@@ -142,7 +142,7 @@ fn keep(
 
 // A name that is not retained: always a new constant.
 fn abandon(store: &mut Store, constants: &mut [u32]) -> Result<usize, Refusal>
-    requires { store.old.counts.constants ≤ 1024 }
+    requires { store.old.counts.constants ≤ size.constants }
     ensures { (n o : List ℕ) → replied result (key_tables store.new n constants.new o) ≡ abandon (key_tables store.old n constants.old o) }
 {
     store.pay(Resource::Links, 1)?;
@@ -160,7 +160,7 @@ fn retain(
     order: &mut [u32],
     key: Key<'_>,
 ) -> Result<usize, Refusal>
-    requires { (store.old.counts.constants ≤ 1024) × ((store.old.counts.keys ≤ 1024) × (length (bytes_of (key_of key)) ≤ 64)) }
+    requires { (store.old.counts.constants ≤ size.constants) × ((store.old.counts.keys ≤ size.constants) × (length (bytes_of (key_of key)) ≤ size.name)) }
     ensures { replied result (key_tables store.new names.new constants.new order.new) ≡ retain (key_of key.entry) (key_tables store.old names.old constants.old order.old) }
 {
     if retained(store, key) {
@@ -183,7 +183,7 @@ pub fn constant(
     ensures { replied result (tables store.new names.new constants.new order.new thresholds.new) ≡ constant_call (key_of key.entry) (tables store.old names.old constants.old order.old thresholds.old) }
 {
     if !sized(names.len(), constants.len(), order.len(), thresholds.len())
-        || 64 < bytes_of(key).len()
+        || sizes::NAME < bytes_of(key).len()
     {
         return Err(Refusal::Shape);
     }

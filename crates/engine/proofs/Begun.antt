@@ -13,7 +13,8 @@ use Rattle.limits.specs.Metered.{◌>>◌}
 use Rattle.limits.specs.Meter.{meter_of, with_meter}
 use Rattle.limits.specs.Budget.{work, released}
 use Rattle.limits.proofs.Ends.{Ends, completes, ends_as, ends_both, ends_then, ends_through, on_then}
-use Rattle.rows.specs.Row.{row, value_at}
+use Rattle.sizes.specs.Sizes.{value_row}
+use Rattle.rows.specs.Row.{value_at}
 use Rattle.rows.proofs.Good.{Good}
 use Rattle.store.proofs.Frame.{ending_ends}
 use Rattle.thresholds.specs.Thresholds.{Entry, entry, enter}
@@ -81,7 +82,7 @@ pub record Sown (seeds : List ℕ) (n e entries : ℕ) (current : List ℕ) : Ty
   pub same : Same seeds n current
 
 module _ (seeds : List ℕ) (n : ℕ) (good : (a : ℕ) → a < n → Good (value_at seeds a)) (e : ℕ) where
-  copied : (s : Slots) → row * n ≤ length s.rows → Formed s.rows → s.meter.entries ≡ e → Ends (λ _ t. Sown seeds n e t.meter.entries t.rows) (λ _ t. t.meter.entries ≡ e) (copies seeds 0 n s)
+  copied : (s : Slots) → value_row * n ≤ length s.rows → Formed s.rows → s.meter.entries ≡ e → Ends (λ _ t. Sown seeds n e t.meter.entries t.rows) (λ _ t. t.meter.entries ≡ e) (copies seeds 0 n s)
   unfolding total
   copied s r f q =
       ends_as
@@ -92,7 +93,7 @@ module _ (seeds : List ℕ) (n : ℕ) (good : (a : ℕ) → a < n → Good (valu
       all : (t : Slots) → Held (0 + n) e t → Same seeds (0 + n) t.rows → Sown seeds n e t.meter.entries t.rows
       all t h m = let z : 0 + n ≡ n = omega arith in record { live = rw z at h.live; room = (omega (arith, h.room), h.formed); same = λ j l. m j (omega arith) }
 
-  seeded_ends : (s : Start) → row * n ≤ length s.current → Formed s.current → s.budget.statistics.entries ≡ e →
+  seeded_ends : (s : Start) → value_row * n ≤ length s.current → Formed s.current → s.budget.statistics.entries ≡ e →
       Ends (λ _ t. Sown seeds n e t.budget.statistics.entries t.current) (λ _ t. t.budget.statistics.entries ≡ e) (seeded seeds n s)
   unfolding seeded
   seeded_ends s r f q =
@@ -110,7 +111,7 @@ module _ (seeds : List ℕ) (n : ℕ) (good : (a : ℕ) → a < n → Good (valu
           (λ _ u z. completes z) (λ _ u z. z)
 
   pub begin_ends : (s : Beginning) → Rises s.entry.count s.entry.table → All Number s.entry.table → s.entry.count + 2 ≤ length s.entry.table →
-      row * n ≤ length s.current → Formed s.current → s.entry.budget.statistics.entries ≡ e →
+      value_row * n ≤ length s.current → Formed s.current → s.entry.budget.statistics.entries ≡ e →
       Ends (λ _ t. Sown seeds n e t.entry.budget.statistics.entries t.current × Ended s.entry t.entry) (λ _ t. t.entry.budget.statistics.entries ≡ e) (begin seeds n s)
   unfolding begin
   begin_ends s r a l room f q =

@@ -1,4 +1,5 @@
 -- What the code answers of the run of an open store, and out to the call, is what the definitions say, over plain variables.
+use Rattle.sizes.specs.Sizes as size
 use Prim.Native.Nat.{ℕ, ◌+◌, ◌*◌, ◌≤◌, ◌<◌}
 use native.Mathlib.Omega.{arith}
 use mathlib.Core.Path.{◌≡◌, sym, ap, ◌∙◌}
@@ -15,13 +16,12 @@ use Rattle.limits.specs.declared.Stop.{Stop}
 use Rattle.limits.specs.declared.Budget.{Budget}
 use Rattle.limits.specs.Metered.{Run, going, stopped}
 use Rattle.thresholds.specs.Thresholds.{entry}
-use Rattle.rows.specs.Row.{row, padded}
+use Rattle.rows.specs.Row.{padded}
 use Rattle.rows.proofs.RowLaws.{length_padded, get_or_padded}
 use Rattle.store.specs.declared.Phase.TheVariants.{Stopped}
 use Rattle.store.specs.declared.Counts.{Counts}
 use Rattle.store.specs.declared.Store.{Store}
 use Rattle.store.specs.Store.{admits}
-use Rattle.rules.specs.Rule as rule
 use Rattle.rounds.specs.Round.{blank}
 use Rattle.engine.specs.Run.{Beginning, beginning, begin, Progress, progress, finish}
 use Rattle.engine.specs.Call.{Read, Tables, tables, sizes, result_sizes, spacious, given_of, ended_in, concluded, finished, ran_on, run_call}
@@ -43,7 +43,7 @@ module _ (from : List ℕ) {count i : ℕ} where
 
 module _ (r : Read) (s : Store) (before : List ℤ) (arguments slots : List ℕ) (b : Budget) (n : ℕ) (marks : List ℤ) (current growth : List ℕ) where
   abbrev from : Beginning
-  from = beginning (entry s.budget s.counts.thresholds before) blank (replicate 512 0)
+  from = beginning (entry s.budget s.counts.thresholds before) blank (replicate size.growth_cells 0)
 
   abbrev to : Beginning
   to = beginning (entry b n marks) current growth
@@ -61,7 +61,7 @@ module _ (r : Read) (s : Store) (before : List ℤ) (arguments slots : List ℕ)
     pub open_taken : s.counts.thresholds + 2 ≤ length before → length marks ≡ length before → n ≡ length (take n marks)
     open_taken a l = sym (length-take-le n marks (open_marks a l))
 
-    pub open_run : {y : Run Stop Progress (Unit {0})} {t : Tables} → y ≡ finish (given_of r s) (take n marks) (progress b s.context current growth (replicate 32768 0)) →
+    pub open_run : {y : Run Stop Progress (Unit {0})} {t : Tables} → y ≡ finish (given_of r s) (take n marks) (progress b s.context current growth (replicate size.bounds_cells 0)) →
         t ≡ concluded r.seeds n marks (tables s before arguments slots) y → t ≡ ran_on r (tables s before arguments slots)
     unfolding ran_on
     open_run f c = c ∙ ap (concluded r.seeds n marks (tables s before arguments slots)) f ∙ ap (finished r (tables s before arguments slots)) begins
@@ -78,8 +78,8 @@ module _ (r : Read) (s : Store) (marks : List ℤ) (arguments slots : List ℕ) 
 pub run_room : (nodes constants rules seeds thresholds : ℕ) (n : Counts) {x y : Bool} → x ≡ sizes nodes constants rules seeds thresholds → x ≡ true → y ≡ spacious n → y ≡ true →
     (n.rules ≤ 256) × (n.thresholds + 2 ≤ thresholds)
 run_room nodes constants rules seeds thresholds n p a q b =
-    let t : eqb thresholds 4096 ≡ true =
-    and_right (eqb seeds (row * 256)) _ (and_right (eqb rules (rule.row * 256)) _ (and_right (eqb constants 2048) _ (and_right (eqb nodes 5120) _ (sym p ∙ a)))) in
+    let t : eqb thresholds size.thresholds ≡ true =
+    and_right (eqb seeds size.argument_cells) _ (and_right (eqb rules size.rule_cells) _ (and_right (eqb constants size.constant_cells) _ (and_right (eqb nodes size.node_cells) _ (sym p ∙ a)))) in
     let u : leb n.rules 256 ≡ true = and_left (leb n.rules 256) _ (and_right (leb n.positions 256) _ (sym q ∙ b)) in
-    let v : leb n.thresholds 4094 ≡ true = and_right (leb n.rules 256) _ (and_right (leb n.positions 256) _ (sym q ∙ b)) in
-    (leb-true n.rules 256 u, omega (arith, eqb-true thresholds 4096 t, leb-true n.thresholds 4094 v))
+    let v : leb n.thresholds size.thresholds_before_run ≡ true = and_right (leb n.rules 256) _ (and_right (leb n.positions 256) _ (sym q ∙ b)) in
+    (leb-true n.rules 256 u, omega (arith, eqb-true thresholds size.thresholds t, leb-true n.thresholds size.thresholds_before_run v))

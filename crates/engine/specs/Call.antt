@@ -1,5 +1,6 @@
 -- The run as a call, on the header and the lent tables. It closes the store, completed or stopped.
 use Rattle.std.specs.Prelude.{ℕ, ◌*◌, Bool, ◌&&◌, List, leb, eqb, ℤ, length, take, replicate}
+use Rattle.sizes.specs.Sizes as size
 use Rattle.std.proofs.lemmas.List.Edits.{sets}
 use Rattle.limits.specs.declared.Stop.{Stop}
 use Rattle.limits.specs.declared.Budget.{Budget}
@@ -7,7 +8,7 @@ use Rattle.limits.specs.declared.Refusal.TheVariants.{Closed, Shape, Full}
 use Rattle.limits.specs.Refusal.{Told}
 use Rattle.limits.specs.Metered.{Run, going, stopped, Metered}
 use Rattle.limits.specs.Budget.{released}
-use Rattle.rows.specs.Row.{row, padded}
+use Rattle.rows.specs.Row.{padded}
 use Rattle.thresholds.specs.Thresholds.{entry}
 use Rattle.store.specs.declared.Phase.{Phase}
 use Rattle.store.specs.declared.Phase.TheVariants.{Completed, Stopped}
@@ -15,7 +16,6 @@ use Rattle.store.specs.declared.Counts.{Counts}
 use Rattle.store.specs.declared.Store.{Store}
 use Rattle.store.specs.Store.{with_budget, with_thresholds, with_phase}
 use Rattle.store.specs.Calls.{unless, open?}
-use Rattle.rules.specs.Rule as rule
 use Rattle.slots.specs.Slots.{total}
 use Rattle.evaluation.specs.Evaluation.{input}
 use Rattle.rounds.specs.Round.{Given, given, blank, moved}
@@ -46,14 +46,14 @@ tables s t a d = record { header = s; thresholds = t; arguments = a; slots = d }
 -- the lengths of expressions, constants, rules, seeds and thresholds
 abbrev pub sizes : ℕ → ℕ → ℕ → ℕ → ℕ → Bool
 sizes nodes constants rules seeds thresholds =
-    eqb nodes 5120 && (eqb constants 2048 && (eqb rules (rule.row * 256) && (eqb seeds (row * 256) && eqb thresholds 4096)))
+    eqb nodes size.node_cells && (eqb constants size.constant_cells && (eqb rules size.rule_cells && (eqb seeds size.argument_cells && eqb thresholds size.thresholds)))
 
 abbrev pub result_sizes : ℕ → ℕ → Bool
-result_sizes arguments slots = eqb arguments (row * 256) && eqb slots 32768
+result_sizes arguments slots = eqb arguments size.argument_cells && eqb slots size.bounds_cells
 
 -- more rows than the tables have meet 2, and thresholds without room for both ends
 abbrev pub spacious : Counts → Bool
-spacious n = leb n.positions 256 && (leb n.rules 256 && leb n.thresholds 4094)
+spacious n = leb n.positions size.positions && (leb n.rules size.rules && leb n.thresholds size.thresholds_before_run)
 
 -- ---- the run of a store that admits it
 
@@ -69,7 +69,7 @@ abbrev pub concluded : List ℕ → ℕ → List ℤ → Tables → Run Stop Pro
 concluded seeds n marks t (going tt s) =
     tables (ended_in Completed (released (total seeds t.header.counts.positions) s.budget) n t.header) marks
     (moved s.current t.header.counts.positions t.arguments)
-    (sets t.slots 0 (padded (128 * t.header.counts.rules) s.bounds))
+    (sets t.slots 0 (padded (size.bounds_row * t.header.counts.rules) s.bounds))
 concluded seeds n marks t (stopped e s) =
     tables (ended_in (Stopped e s.context) (released (total s.current t.header.counts.positions) s.budget) n t.header) marks t.arguments t.slots
 
@@ -77,13 +77,13 @@ concluded seeds n marks t (stopped e s) =
 abbrev pub finished : Read → Tables → Run Stop Beginning (Unit {0}) → Tables
 finished r t (going tt s) =
     concluded r.seeds s.entry.count s.entry.table t
-    (finish (given_of r t.header) (take s.entry.count s.entry.table) (progress s.entry.budget t.header.context s.current s.growth (replicate 32768 0)))
+    (finish (given_of r t.header) (take s.entry.count s.entry.table) (progress s.entry.budget t.header.context s.current s.growth (replicate size.bounds_cells 0)))
 finished r t (stopped e s) = tables (ended_in (Stopped e t.header.context) s.entry.budget s.entry.count t.header) s.entry.table t.arguments t.slots
 
 -- with current values and growth of its own
 unfoldable pub ran_on : Read → Tables → Tables
 ran_on r t =
-    finished r t (begin r.seeds t.header.counts.positions (beginning (entry t.header.budget t.header.counts.thresholds t.thresholds) blank (replicate 512 0)))
+    finished r t (begin r.seeds t.header.counts.positions (beginning (entry t.header.budget t.header.counts.thresholds t.thresholds) blank (replicate size.growth_cells 0)))
 
 unfoldable pub run_call : Read → Metered Told Tables (Unit {0})
 run_call r =

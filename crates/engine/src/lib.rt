@@ -5,6 +5,7 @@
 
 ghost use Rattle.std.specs.Prelude.{ℕ, ℤ, List, ◌≡◌, ◌+◌, ◌≤◌, length};
 ghost use Rattle.std.proofs.lemmas.List.Edits.{sets};
+ghost use Rattle.sizes.specs.Sizes as size;
 ghost use Rattle.limits.specs.Metered.{answered};
 ghost use Rattle.limits.specs.Refusal.{replied};
 ghost use Rattle.rows.specs.Row.{padded};
@@ -17,9 +18,6 @@ use evaluation::Input;
 use limits::{Budget, Refusal, Resource, Stop};
 use rounds::{Course, Given};
 use store::{Counts, Phase, Store};
-
-// Two cells for each argument.
-pub const GROWTH: usize = 512;
 
 // Both ends of 32 bits become thresholds (`complete_thresholds`).
 fn enter_ends(table: &mut [i32], count: &mut usize, budget: &mut Budget) -> Result<(), Stop>
@@ -129,7 +127,7 @@ fn conclude(
     thresholds: usize,
     course: Course,
 )
-    requires { store.old.counts.rules ≤ 256 }
+    requires { store.old.counts.rules ≤ size.rules }
     ensures { (marks before : List ℤ) (growth : List ℕ) → tables store.new marks arguments.new slots.new ≡ concluded seeds.now thresholds marks (tables store.old before arguments.old slots.old) (answered ran (progress course.budget course.context current.now growth bounds.now)) }
 {
     let positions = store.counts.positions;
@@ -146,7 +144,7 @@ fn conclude(
         }
         Ok(()) => {
             rounds::move_rows(current, arguments, positions);
-            move_cells(bounds, slots, results::RULE * store.counts.rules);
+            move_cells(bounds, slots, sizes::BOUNDS_ROW * store.counts.rules);
             rounds::without_rows(seeds, positions, &mut budget);
             end(store, thresholds, Phase::Completed, budget);
         }
@@ -187,7 +185,7 @@ fn run_open(
     arguments: &mut [u32],
     slots: &mut [u32],
 )
-    requires { (store.old.counts.rules ≤ 256) × (store.old.counts.thresholds + 2 ≤ length thresholds.old) }
+    requires { (store.old.counts.rules ≤ size.rules) × (store.old.counts.thresholds + 2 ≤ length thresholds.old) }
     ensures { tables store.new thresholds.new arguments.new slots.new ≡ ran_on (read nodes.now constants.now rules.now seeds.now) (tables store.old thresholds.old arguments.old slots.old) }
 {
     let given = given_of(store, nodes, constants, rules, seeds);
@@ -196,9 +194,9 @@ fn run_open(
         context: store.context,
     };
     let mut marks = store.counts.thresholds;
-    let mut current = [0u32; rounds::ARGUMENTS];
-    let mut growth = [0u32; GROWTH];
-    let mut bounds = [0u32; results::BOUNDS];
+    let mut current = [0u32; sizes::ARGUMENT_CELLS];
+    let mut growth = [0u32; sizes::GROWTH_CELLS];
+    let mut bounds = [0u32; sizes::BOUNDS_CELLS];
     let begun = begin(
         seeds,
         store.counts.positions,
@@ -229,25 +227,27 @@ fn run_open(
 fn is_sized(nodes: usize, constants: usize, rules: usize, seeds: usize, thresholds: usize) -> bool
     ensures { result ≡ sizes nodes constants rules seeds thresholds }
 {
-    nodes == nodes::ROW * 1024
-        && constants == 2048
-        && rules == rules::ROW * 256
-        && seeds == rounds::ARGUMENTS
-        && thresholds == 4096
+    nodes == sizes::NODE_CELLS
+        && constants == sizes::CONSTANT_CELLS
+        && rules == sizes::RULE_CELLS
+        && seeds == sizes::ARGUMENT_CELLS
+        && thresholds == sizes::THRESHOLDS
 }
 
 // The sizes of the result tables.
 fn is_result_sized(arguments: usize, slots: usize) -> bool
     ensures { result ≡ result_sizes arguments slots }
 {
-    arguments == rounds::ARGUMENTS && slots == results::BOUNDS
+    arguments == sizes::ARGUMENT_CELLS && slots == sizes::BOUNDS_CELLS
 }
 
 // Whether the tables have the rows that the header counts, and room for both ends.
 fn has_room(counts: &Counts) -> bool
     ensures { result ≡ spacious counts.now }
 {
-    counts.positions <= 256 && counts.rules <= 256 && counts.thresholds <= 4094
+    counts.positions <= sizes::POSITIONS
+        && counts.rules <= sizes::RULES
+        && counts.thresholds <= sizes::THRESHOLDS_BEFORE_RUN
 }
 
 // The run. It closes the store, completed or stopped, and charges what its rounds and its result cost. Tables of other sizes than 01's and a

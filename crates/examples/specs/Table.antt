@@ -1,5 +1,6 @@
 -- The examples of 01 that are proved, one row each: a computation, and what it gives.
 use Rattle.std.specs.Prelude.{ℕ, ◌*◌, ◌≡◌, List, [], ◌∷◌, pos, replicate}
+use Rattle.sizes.specs.Sizes as size
 use Rattle.std.proofs.Math.Option.{Option, some, none}
 use Rattle.limits.specs.declared.Limits.{Limits}
 use Rattle.limits.specs.declared.Stop.{Stop}
@@ -15,7 +16,6 @@ use Rattle.lattice.specs.declared.Widening.TheVariants.{ValueWidth}
 use Rattle.std.specs.Prelude.{None, Some}
 use Rattle.lattice.specs.Value.{Value, value}
 use Rattle.lattice.specs.Lattice.{join}
-use Rattle.rows.specs.Row.{row}
 use Rattle.store.specs.declared.Phase.TheVariants.{Open}
 use Rattle.store.specs.Store.{with_predicate, empty}
 use Rattle.store.specs.Calls.{bottoms}
@@ -61,7 +61,7 @@ ample = record { work = 1000; predicates = 1000; positions = 1000; links = 1000;
 
 -- an open store with ample limits and one argument that nothing is seeded to; all else in the tables is 0
 abbrev pub opened : IntervalTables
-opened = interval_tables (with_predicate 1 (empty ample Open)) (bottoms (replicate (row * 256) 0) 0 1) (replicate 2048 0) (replicate 4096 (pos 0))
+opened = interval_tables (with_predicate 1 (empty ample Open)) (bottoms (replicate size.argument_cells 0) 0 1) (replicate size.record_cells 0) (replicate size.thresholds (pos 0))
 
 -- what a call is turned down with, if it is
 abbrev pub turned_down : {S A : Type 0} → Run Told S A → Option Told

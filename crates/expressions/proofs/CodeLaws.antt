@@ -1,4 +1,5 @@
 -- What the code's answers are, over plain variables: one law for each way out of a step.
+use Rattle.sizes.specs.Sizes as size
 use Prim.Native.Nat.{ℕ, zero, suc, ◌+◌, ◌*◌, ◌≤◌, ◌<◌}
 use native.Mathlib.Omega.{arith}
 use native.Mathlib.Decide.{dec_lt}
@@ -26,7 +27,8 @@ use Rattle.limits.proofs.Units.{units_more, units_nothing}
 use Rattle.search.specs.Seek.{Place, found, absent}
 use Rattle.nodes.specs.declared.Expression.{Expression}
 use Rattle.nodes.specs.declared.Node.{Node}
-use Rattle.nodes.specs.Node.{row, node_of, same_node, node_at, put_node}
+use Rattle.sizes.specs.Sizes.{node_row}
+use Rattle.nodes.specs.Node.{node_of, same_node, node_at, put_node}
 use Rattle.store.specs.declared.Store.{Store}
 use Rattle.store.specs.Store.{admits, with_budget, with_expressions}
 use Rattle.store.specs.Calls.{unless, charged as billed}
@@ -36,11 +38,11 @@ use Rattle.expressions.specs.Expression.{supported, deepest, valid, shared, firs
 -- ---- the search: the place
 
 -- most rows differ in this cell
-pub other_left : (nodes : List ℕ) (i : ℕ) (n : Node) → (get_or nodes (row * i + 2) 0 ≡ n.left → ⊥) → eqb (get_or nodes (row * i + 2) 0) n.left ≡ same_node (node_at nodes i) n
+pub other_left : (nodes : List ℕ) (i : ℕ) (n : Node) → (get_or nodes (node_row * i + 2) 0 ≡ n.left → ⊥) → eqb (get_or nodes (node_row * i + 2) 0) n.left ≡ same_node (node_at nodes i) n
 unfolding node_at
 other_left nodes i n h =
     let m = node_at nodes i in
-    rw (ne_eqb (get_or nodes (row * i + 2) 0) n.left h, and_false (eqb m.operator n.operator)) (sym (and_false (eqb m.kind n.kind)))
+    rw (ne_eqb (get_or nodes (node_row * i + 2) 0) n.left h, and_false (eqb m.operator n.operator)) (sym (and_false (eqb m.kind n.kind)))
 
 module _ (nodes : List ℕ) (e : Node) where
   abbrev pub Same : ℕ → Type 0
@@ -163,12 +165,12 @@ module _ (e : Expression) (s : Store) (nodes : List ℕ) (m : Meter) {r : Result
 
 -- ---- the call
 
-module _ (e : Expression) (s : Store) (nodes : List ℕ) {t o : Bool} {d : ℕ} (n : length nodes ≡ row * 1024) (a : t ≡ supported e) (y : t ≡ true) (h : o ≡ admits s.phase) (q : o ≡ true)
+module _ (e : Expression) (s : Store) (nodes : List ℕ) {t o : Bool} {d : ℕ} (n : length nodes ≡ size.node_cells) (a : t ≡ supported e) (y : t ≡ true) (h : o ≡ admits s.phase) (q : o ≡ true)
     (g : d ≡ deepest nodes s.counts.expressions e) (k : d < 64) (f : s.counts.expressions < 1024) where
   -- what is left after the tests
   tested : expression_call e (tables s nodes) ≡ (paying (work 1) >> unless (λ (t : Tables). valid t.header.counts e) Missing (share e)) (tables s nodes)
   unfolding expression_call
-  tested = rw (eq-eqb (length nodes) (row * 1024) n, ← a, y, ← h, q, ← g, le-leb (1 + d) 64 (omega arith), lt-ltb s.counts.expressions 1024 f)
+  tested = rw (eq-eqb (length nodes) size.node_cells n, ← a, y, ← h, q, ← g, le-leb (1 + d) 64 (omega arith), lt-ltb s.counts.expressions 1024 f)
 
   pub expression_work : {r : Told} {u : Store} → stopped r u ≡ billed (work 1) s → stopped r (tables u nodes) ≡ expression_call e (tables s nodes)
   expression_work p = rw tested (then_stop _ _ _ (through_stop _ _ _ _ (billed (work 1)) (tables s nodes) p))
@@ -177,7 +179,7 @@ module _ (e : Expression) (s : Store) (nodes : List ℕ) {t o : Bool} {d : ℕ} 
     same_counts : u.counts ≡ s.counts
     same_counts = charged_counts (work 1) s p
 
-    pub share_ready : (u.counts.expressions < 1024) × (deepest nodes u.counts.expressions e < 64) × (row * 1024 ≤ length nodes)
+    pub share_ready : (u.counts.expressions < 1024) × (deepest nodes u.counts.expressions e < 64) × (size.node_cells ≤ length nodes)
     share_ready = rw same_counts (f, rw (← g) k, omega arith)
 
     module _ {v : Bool} (w : v ≡ valid u.counts e) where

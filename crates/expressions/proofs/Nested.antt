@@ -1,5 +1,6 @@
 -- What calls keep true of the table of expressions: each row is the node of an expression, whose children have smaller ids, whose constant
 -- stands, and beside which its nesting is written. And what one call leaves, whichever way it ends.
+use Rattle.sizes.specs.Sizes as size
 use Prim.Native.Nat.{ℕ, zero, suc, ◌+◌, ◌*◌, ◌≤◌, ◌<◌, max}
 use native.Mathlib.Omega.{arith}
 use mathlib.Core.Path.{◌≡◌, refl, sym, ap, subst, ◌∙◌}
@@ -28,7 +29,7 @@ use Rattle.search.specs.Seek.{Place, found, absent}
 use Rattle.nodes.specs.declared.Expression.{Expression}
 use Rattle.nodes.specs.declared.Expression.TheVariants.{Constant, Slot, Unary, Absolute, Binary, Unknown}
 use Rattle.nodes.specs.declared.Node.{Node}
-use Rattle.nodes.specs.Node.{row, node_of, same_node, expression_of, node_at, nesting_at, expression_at, put_node}
+use Rattle.nodes.specs.Node.{node_of, same_node, expression_of, node_at, nesting_at, expression_at, put_node}
 use Rattle.nodes.proofs.NodeLaws.{Below, Undivided, node_back, node_kept, nesting_back, nesting_kept, expression_back, same_node_lem}
 use Rattle.store.specs.declared.Counts.{Counts}
 use Rattle.store.specs.Store.{with_budget, with_expressions}
@@ -284,7 +285,7 @@ older_lives nodes count e = live_test (shared e) (λ t. seek_lives nodes (node_o
 
 -- ---- an expression that passes the tests
 
-module _ (e : Expression) (t : Tables) (rows : length t.nodes ≡ row * 1024) (ready : supported e ≡ true)
+module _ (e : Expression) (t : Tables) (rows : length t.nodes ≡ size.node_cells) (ready : supported e ≡ true)
     (flat : nesting t.nodes t.header.counts.expressions e ≤ 64) (room : t.header.counts.expressions < 1024) (names : valid t.header.counts e ≡ true)
     (nest : Nested t.header.counts.constants t.header.counts.expressions t.nodes) where
   abbrev n : ℕ
@@ -408,7 +409,7 @@ pub expression_ends : (e : Expression) (t : Tables) → Nested t.header.counts.c
     Ends (Accepted e t) (Refused t) (expression_call e t)
 unfolding expression_call
 expression_ends e t nest =
-    ends_test (eqb (length t.nodes) (row * 1024))
+    ends_test (eqb (length t.nodes) size.node_cells)
     (λ rows.
     ends_test (supported e)
     (λ ready.
@@ -422,7 +423,7 @@ expression_ends e t nest =
     (λ _ u k.
     ends_test (valid u.header.counts e)
     (λ names.
-    share_ends e t (eqb-true (length t.nodes) (row * 1024) rows) ready (leb-true (nesting t.nodes t.header.counts.expressions e) 64 flat)
+    share_ends e t (eqb-true (length t.nodes) size.node_cells rows) ready (leb-true (nesting t.nodes t.header.counts.expressions e) 64 flat)
     (ltb-true t.header.counts.expressions 1024 room) (rw k.0.is at names) nest u k.0)
     (λ _. stops record { spending = k.0; early = λ h. absurd (omega arith) }))
     (λ r u k. refused_late (spending_none t) k))

@@ -1,5 +1,6 @@
 -- `Input::expression`, on the header and the lent table as they stand.
 use Rattle.std.specs.Prelude.{ℕ, zero, suc, ◌+◌, ◌*◌, max, Bool, true, false, cond, ◌&&◌, List, leb, ltb, eqb, length}
+use Rattle.sizes.specs.Sizes as size
 use Rattle.limits.specs.declared.Stop.{Stop}
 use Rattle.limits.specs.declared.Budget.{Budget}
 use Rattle.limits.specs.declared.Refusal.TheVariants.{Closed, Shape, Full, Missing}
@@ -15,7 +16,7 @@ use Rattle.nodes.specs.declared.BinaryOp.TheVariants.{Add, Sub, Mul, Div, Mod, P
 use Rattle.nodes.specs.declared.Expression.{Expression}
 use Rattle.nodes.specs.declared.Expression.TheVariants.{Constant, Slot, Unary, Absolute, Binary, Unknown}
 use Rattle.nodes.specs.declared.Node.{Node}
-use Rattle.nodes.specs.Node.{row, node_of, node_at, nesting_at, put_node, same_node}
+use Rattle.nodes.specs.Node.{node_of, node_at, nesting_at, put_node, same_node}
 use Rattle.store.specs.declared.Counts.{Counts}
 use Rattle.store.specs.declared.Store.{Store}
 use Rattle.store.specs.Store.{with_expressions}
@@ -118,9 +119,9 @@ share e t = (paying (metered (older t.nodes t.header.counts.expressions e)) >>= 
 
 unfoldable pub expression_call : Expression → Metered Told Tables ℕ
 expression_call e =
-    unless (λ t. eqb (length t.nodes) (row * 1024)) Shape
+    unless (λ t. eqb (length t.nodes) size.node_cells) Shape
     (unless (λ t. supported e) Shape
     (unless (λ t. open? t.header) Closed
-    (unless (λ t. leb (nesting t.nodes t.header.counts.expressions e) 64) Shape
-    (unless (λ t. ltb t.header.counts.expressions 1024) Full
+    (unless (λ t. leb (nesting t.nodes t.header.counts.expressions e) size.nesting) Shape
+    (unless (λ t. ltb t.header.counts.expressions size.expressions) Full
     (paying (work 1) >> unless (λ t. valid t.header.counts e) Missing (share e))))))

@@ -2,19 +2,15 @@
 #![tactic(auto)]
 
 ghost use Rattle.std.specs.Prelude.{◌≡◌, ◌+◌, ◌*◌, ◌≤◌, ◌<◌, MatchOption, length};
+ghost use Rattle.sizes.specs.Sizes as size;
 ghost use Rattle.limits.specs.Metered.{answered};
 ghost use Rattle.limits.specs.Refusal.{replied};
-ghost use Rattle.nodes.specs.Node.{row, same_node, node_at};
+ghost use Rattle.nodes.specs.Node.{same_node, node_at};
 ghost use Rattle.expressions.specs.Expression.{supported, child_nesting, deepest, valid, shared, first_node, seek_node, older, tables, share, expression_call};
 
 use limits::{Meter, Refusal, Resource, Stop};
 use nodes::{BinaryOp, Expression, Node};
 use store::{Counts, Store};
-
-// The expressions that the table has rows for, and how deep they may be nested.
-pub const EXPRESSIONS: usize = 1024;
-
-pub const NESTING: u64 = 64;
 
 fn is_supported(value: Expression) -> bool
     ensures { result ≡ supported value }
@@ -71,15 +67,15 @@ fn is_shared(value: Expression) -> bool
 
 // Whether a row has these cells. Most rows differ in `left`: it is compared before the others are read.
 fn has_node(nodes: &[u64], i: usize, node: Node) -> bool
-    requires { row * i + 2 < length nodes.now }
+    requires { size.node_row * i + 2 < length nodes.now }
     ensures { result ≡ same_node (node_at nodes.now i) node }
 {
-    nodes[nodes::ROW * i + 2] == node.left && nodes::node_at(nodes, i) == node
+    nodes[sizes::NODE_ROW * i + 2] == node.left && nodes::node_at(nodes, i) == node
 }
 
 // The first of the rows that has these cells. A `for`: `find` over the range takes 1.7 times as long.
 fn first_node(nodes: &[u64], count: usize, node: Node) -> Option<usize>
-    requires { row * count ≤ length nodes.now }
+    requires { size.node_row * count ≤ length nodes.now }
     ensures { MatchOption result (count ≤ first_node nodes.now node 0 count) (λ i. (i < count) × (i ≡ first_node nodes.now node 0 count)) }
 {
     for i in 0..count {
@@ -97,7 +93,7 @@ fn seek_node(
     node: Node,
     meter: &mut Meter,
 ) -> Result<Result<usize, usize>, Stop>
-    requires { row * count ≤ length nodes.now }
+    requires { size.node_row * count ≤ length nodes.now }
     ensures { answered result meter.new ≡ seek_node nodes.now node 0 count meter.old }
 {
     match first_node(nodes, count, node) {
@@ -119,7 +115,7 @@ fn seek_older(
     value: Expression,
     meter: &mut Meter,
 ) -> Result<Result<usize, usize>, Stop>
-    requires { row * count ≤ length nodes.now }
+    requires { size.node_row * count ≤ length nodes.now }
     ensures { answered result meter.new ≡ older nodes.now count value meter.old }
 {
     if is_shared(value) {
@@ -131,7 +127,7 @@ fn seek_older(
 
 // An expression that the call takes: the older id, or a new row.
 fn share(store: &mut Store, nodes: &mut [u64], value: Expression) -> Result<usize, Refusal>
-    requires { (store.old.counts.expressions < 1024) × (deepest nodes.old store.old.counts.expressions value < 64) × (row * 1024 ≤ length nodes.old) }
+    requires { (store.old.counts.expressions < size.expressions) × (deepest nodes.old store.old.counts.expressions value < size.nesting) × (size.node_cells ≤ length nodes.old) }
     ensures { replied result (tables store.new nodes.new) ≡ share value (tables store.old nodes.old) }
 {
     let id = store.counts.expressions;
@@ -154,16 +150,16 @@ pub fn expression(store: &mut Store, nodes: &mut [u64], value: Expression) -> Re
     ensures { replied result (tables store.new nodes.new) ≡ expression_call value (tables store.old nodes.old) }
 {
     let count = store.counts.expressions;
-    if nodes.len() != nodes::ROW * EXPRESSIONS || !is_supported(value) {
+    if nodes.len() != sizes::NODE_CELLS || !is_supported(value) {
         return Err(Refusal::Shape);
     }
     if !store.phase.admits() {
         return Err(Refusal::Closed);
     }
-    if NESTING <= deepest(nodes, count, value) {
+    if sizes::NESTING as u64 <= deepest(nodes, count, value) {
         return Err(Refusal::Shape);
     }
-    if EXPRESSIONS <= count {
+    if sizes::EXPRESSIONS <= count {
         return Err(Refusal::Full);
     }
     store.pay(Resource::Work, 1)?;

@@ -21,7 +21,8 @@ use Rattle.interval.specs.declared.Interval.TheVariants.{Bottom, Bounded, Unboun
 use Rattle.std.specs.Prelude.{Option, Some, None}
 use Rattle.interval.specs.Interval.{endpoints_of}
 use Rattle.lattice.specs.Value.{Value}
-use Rattle.rows.specs.Row.{row, entries_of, value_at}
+use Rattle.sizes.specs.Sizes.{value_row}
+use Rattle.rows.specs.Row.{entries_of, value_at}
 use Rattle.rows.specs.WellFormed.{Proper}
 use Rattle.rows.proofs.Formed.{proper_checked}
 use Rattle.rules.specs.declared.Relation.{Relation}
@@ -215,7 +216,7 @@ module _ (i : Input) (small : All (λ c. c < 2 ^ 32) i.constants) {n : ℕ} wher
   stays_all gs h = stays_fold 0 gs h
 
   pub guard_ends : (domains : List ℕ) → Formed domains → (gs : List Guard) → All (GuardIn n i) gs → (e : ℕ) (s : Local) →
-      row * n ≤ length s.produced → Formed s.produced → All (λ c. c < 2 ^ 32) s.refinements → s.meter.entries ≡ e →
+      value_row * n ≤ length s.produced → Formed s.produced → All (λ c. c < 2 ^ 32) s.refinements → s.meter.entries ≡ e →
       Ends (λ _ t. Kept n e t) (λ _ t. t.meter.entries ≡ e) (guard i domains n gs s)
   unfolding guard total
   guard_ends domains formed gs inside e s room f cells q =

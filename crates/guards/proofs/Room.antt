@@ -22,7 +22,8 @@ use Rattle.rules.specs.declared.Relation.{Relation}
 use Rattle.rules.specs.declared.Guard.{Guard}
 use Rattle.rules.specs.declared.Guard.TheVariants.{Compare, Membership}
 use Rattle.slots.specs.Slots.{Slots}
-use Rattle.refinements.specs.Refinement.{Refinement, row, refinement_at, refinements_of, put_refinement, integer?, position, Notes, notes, noted, note}
+use Rattle.sizes.specs.Sizes.{refinement_row}
+use Rattle.refinements.specs.Refinement.{Refinement, refinement_at, refinements_of, put_refinement, integer?, position, Notes, notes, noted, note}
 use Rattle.refinements.proofs.Theorems.{length_refinement}
 use Rattle.evaluation.specs.Evaluation.{Input, known_identity}
 use Rattle.guards.specs.Guards.{Local, paying, in_slots, in_notes, narrow_known, refine_operand, refine_both, narrowing?, compared, with_both, member, guard_one, guard_step}
@@ -48,19 +49,19 @@ length_from f j zero = refl
 length_from f j (suc n) = ap suc (length_from f (j + 1) n)
 
 module _ (n id : ℕ) (i : Interval) where
-  noted_puts : (p : ℕ) (t : Notes) → p ≤ n → n < length t.table / row → Ends (Put n id t) (λ _ _. Unit {0}) (noted n id i p t)
+  noted_puts : (p : ℕ) (t : Notes) → p ≤ n → n < length t.table / refinement_row → Ends (Put n id t) (λ _ _. Unit {0}) (noted n id i p t)
   noted_puts p t l room =
       ends_test (ltb p n) (λ e. completes record { place = p; interval = _; counts = ltb-true p n e; few = omega arith; is = refl })
       (λ e.
       let b : n ≤ p = ltb-false p n e in
-      ends_test (ltb p (length t.table / row)) (λ _. completes record { place = p; interval = i; counts = omega arith; few = omega arith; is = refl })
+      ends_test (ltb p (length t.table / refinement_row)) (λ _. completes record { place = p; interval = i; counts = omega arith; few = omega arith; is = refl })
       (λ d. absurd (full p t l room b d)))
     where
-      full : (p : ℕ) (t : Notes) → p ≤ n → n < length t.table / row → n ≤ p → ltb p (length t.table / row) ≡ false → ⊥
-      full p t l room b d = let c : length t.table / row ≤ p = ltb-false p (length t.table / row) d in omega arith
+      full : (p : ℕ) (t : Notes) → p ≤ n → n < length t.table / refinement_row → n ≤ p → ltb p (length t.table / refinement_row) ≡ false → ⊥
+      full p t l room b d = let c : length t.table / refinement_row ≤ p = ltb-false p (length t.table / refinement_row) d in omega arith
 
   -- where there is room, a restriction is recorded
-  pub note_puts : (t : Notes) → n < length t.table / row → Ends (Put n id t) (λ _ _. Unit {0}) (note n id i t)
+  pub note_puts : (t : Notes) → n < length t.table / refinement_row → Ends (Put n id t) (λ _ _. Unit {0}) (note n id i t)
   unfolding note
   note_puts t room =
       ends_bind {P = λ p u. (p ≤ n) × (u.table ≡ t.table)} {Q = λ _ _. Unit {0}} _ (noted n id i) t
@@ -74,7 +75,7 @@ module _ (n id : ℕ) (i : Interval) where
   noted_few : (p : ℕ) (t : Notes) → Ends (λ k u. (k ≤ n + 1) × (length u.table ≡ length t.table)) (λ _ _. Unit {0}) (noted n id i p t)
   noted_few p t =
       ends_test (ltb p n) (λ _. completes (omega arith, length_refinement t.table p id _))
-      (λ _. ends_test (ltb p (length t.table / row)) (λ _. completes (omega arith, length_refinement t.table p id i)) (λ _. completes (omega arith, refl)))
+      (λ _. ends_test (ltb p (length t.table / refinement_row)) (λ _. completes (omega arith, length_refinement t.table p id i)) (λ _. completes (omega arith, refl)))
 
   note_few : (t : Notes) → Ends (λ k u. (k ≤ n + 1) × (length u.table ≡ length t.table)) (λ _ _. Unit {0}) (note n id i t)
   unfolding note

@@ -1,4 +1,5 @@
 -- Each call keeps what holds of a store, whichever way it ends.
+use Rattle.sizes.specs.Sizes as size
 use Prim.Native.Nat.{ℕ, ◌+◌, ◌^◌, ◌≤◌, ◌<◌}
 use native.Mathlib.Omega.{arith}
 use mathlib.Core.Path.{◌≡◌, refl, ap, ◌∙◌}
@@ -95,7 +96,7 @@ pub argument_keeps : (p i : ℕ) (t : Tables) → Reached t → Keeps (input.arg
 unfolding call argument_call
 argument_keeps p i t r =
     on_ends_lem (λ u. u.header) with_header id {P = λ _ s. Goes t (with_header s t)} {Q = λ e s. Refused t e (with_header s t)} (argument_call p i t.predicates) t
-    (ends_test (eqb (length t.predicates) 128)
+    (ends_test (eqb (length t.predicates) size.predicate_cells)
     (λ _.
     ends_test (open? t.header)
     (λ _.
@@ -197,7 +198,7 @@ module _ {t : Tables} (r : Reached t) (k : Key) where
             };
           }
 
-      few : (u ≡ for_constant t) ⊎ (spacious t.header.counts ≡ true) → u.header.counts.thresholds ≤ 4094
+      few : (u ≡ for_constant t) ⊎ (spacious t.header.counts ≡ true) → u.header.counts.thresholds ≤ size.thresholds_before_run
       few (inl e) = rw e r.counted.thresholds
       few (inr h) = omega (arith, (room_yes t.header.counts h).1.1, d.still.thresholds.most)
 

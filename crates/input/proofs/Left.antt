@@ -1,4 +1,5 @@
 -- What calls leave of a store: laws by which one store is reached from another, over the parts that a call changes.
+use Rattle.sizes.specs.Sizes as size
 use Prim.Native.Nat.{ℕ, ◌+◌, ◌*◌, ◌≤◌, ◌<◌}
 use native.Mathlib.Omega.{arith}
 use native.Mathlib.Decide.{dec_lt}
@@ -23,9 +24,7 @@ use Rattle.thresholds.proofs.Sorted.{Rises}
 use Rattle.keys.specs.Key.{Key, number, kind_at, payload_at, key_at}
 use Rattle.keys.proofs.CodecLaws.{kind_back, payload_back, kind_kept, payload_kept}
 use Rattle.nodes.specs.Node.{expression_at}
-use Rattle.rows.specs.Row.{row}
 use Rattle.rules.specs.declared.Rule.{Rule}
-use Rattle.rules.specs.Rule as rules
 use Rattle.rules.proofs.RuleLaws.{Short, Row, SmallContext}
 use Rattle.store.specs.Store.{Context}
 use Rattle.store.specs.declared.Store.{Store}
@@ -124,7 +123,7 @@ pub record Beyond (t u : Tables) : Type 0 where
   pub rises : Rises u.header.counts.thresholds u.thresholds
   pub old : Stay t u
   pub marks : length u.thresholds ≡ length t.thresholds
-  pub few_marks : u.header.counts.thresholds ≤ 4094
+  pub few_marks : u.header.counts.thresholds ≤ size.thresholds_before_run
   pub records : length u.records ≡ length t.records
   pub few_records : u.header.counts.provenance ≤ 1024
 
@@ -159,9 +158,9 @@ numbers_marks {c} {c'} {a} {b} f h = record { at = λ id l e. let p = h.at id l 
 
 -- what holds of the rest: predicates, seeds and rules
 pub record Rest (u : Tables) : Type 0 where
-  pub predicates : length u.predicates ≡ 128
-  pub seeds : length u.seeds ≡ row * 256
-  pub cells : length u.rules ≡ rules.row * 256
+  pub predicates : length u.predicates ≡ size.predicate_cells
+  pub seeds : length u.seeds ≡ size.argument_cells
+  pub cells : length u.rules ≡ size.rule_cells
   pub few_predicates : u.header.counts.predicates ≤ 64
   pub few_positions : u.header.counts.positions ≤ 256
   pub few_rules : u.header.counts.rules ≤ 256

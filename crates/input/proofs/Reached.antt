@@ -1,4 +1,5 @@
 -- What holds of a store between calls, and of a fresh one. `Played` shows that every list of calls keeps it.
+use Rattle.sizes.specs.Sizes as size
 use Prim.Native.Nat.{ℕ, ◌+◌, ◌*◌, ◌≤◌, ◌<◌}
 use native.Mathlib.Omega.{arith}
 use mathlib.Core.Path.{◌≡◌, refl, ap}
@@ -19,10 +20,7 @@ use Rattle.limits.proofs.Ends.{Ends, stops, ends_pure, ends_test}
 use Rattle.cells.specs.Cells.{of_cell}
 use Rattle.thresholds.proofs.Sorted.{Rises, rises_none}
 use Rattle.keys.specs.Key.{Key, number, kind_at, payload_at, key_at}
-use Rattle.nodes.specs.Node as nodes
-use Rattle.rows.specs.Row.{row}
 use Rattle.rules.specs.declared.Rule.{Rule}
-use Rattle.rules.specs.Rule as rules
 use Rattle.rules.proofs.RuleLaws.{Row, SmallContext}
 use Rattle.store.specs.Store.{Context}
 use Rattle.store.specs.declared.Phase.TheVariants.{Open, Absent}
@@ -42,15 +40,15 @@ use Rattle.input.specs.Input.{Tables, Whole}
 
 -- the tables have the sizes that calls ask for
 pub record Sized (t : Tables) : Type 0 where
-  pub predicates : length t.predicates ≡ 128
-  pub names : length t.names ≡ 65536
-  pub constants : length t.constants ≡ 2048
-  pub order : length t.order ≡ 1024
-  pub thresholds : length t.thresholds ≡ 4096
-  pub nodes : length t.nodes ≡ nodes.row * 1024
-  pub seeds : length t.seeds ≡ row * 256
-  pub records : length t.records ≡ 2048
-  pub rules : length t.rules ≡ rules.row * 256
+  pub predicates : length t.predicates ≡ size.predicate_cells
+  pub names : length t.names ≡ size.name_cells
+  pub constants : length t.constants ≡ size.constant_cells
+  pub order : length t.order ≡ size.constants
+  pub thresholds : length t.thresholds ≡ size.thresholds
+  pub nodes : length t.nodes ≡ size.node_cells
+  pub seeds : length t.seeds ≡ size.argument_cells
+  pub records : length t.records ≡ size.record_cells
+  pub rules : length t.rules ≡ size.rule_cells
 
 -- and no more rows stand than they have room for
 pub record Counted (n : Counts) : Type 0 where
@@ -59,7 +57,7 @@ pub record Counted (n : Counts) : Type 0 where
   pub constants : n.constants ≤ 1024
   pub keys : n.keys ≤ 1024
   pub expressions : n.expressions ≤ 1024
-  pub thresholds : n.thresholds ≤ 4094
+  pub thresholds : n.thresholds ≤ size.thresholds_before_run
   pub provenance : n.provenance ≤ 1024
   pub rules : n.rules ≤ 256
 
@@ -163,7 +161,7 @@ module _ {t : Tables} (r : Reached t) where
   pub argument_answers : (p i : ℕ) → Ends (λ a s. a < s.counts.positions) (λ _ _. Unit {0}) (argument_call p i t.predicates t.header)
   unfolding argument_call
   argument_answers p i =
-      ends_test (eqb (length t.predicates) 128)
+      ends_test (eqb (length t.predicates) size.predicate_cells)
       (λ _.
       ends_test (open? t.header)
       (λ _.

@@ -1,4 +1,5 @@
 -- `rule` keeps what holds of a store, whichever way it ends.
+use Rattle.sizes.specs.Sizes as size
 use Prim.Native.Nat.{ℕ, ◌+◌, ◌≤◌}
 use native.Mathlib.Omega.{arith}
 use mathlib.Core.Path.{◌≡◌, refl, ap, ◌∙◌}
@@ -133,7 +134,7 @@ module _ (nodes : List ℕ) (q : Rule) (t : producers.Tables) where
 -- at most 16 records more
 sixteen : (c : Context) (n n' : ℕ) → recordable c n ≡ true → n' ≤ n + 16 → (c ≡ None → n' ≡ n) → n ≤ 1024 → n' ≤ 1024
 sixteen None n n' h l f g = omega (arith, f refl)
-sixteen (Some c) n n' h l f g = omega (arith, leb-true n 1008 h)
+sixteen (Some c) n n' h l f g = omega (arith, leb-true n size.records_before_call h)
 
 -- ---- `rule`
 

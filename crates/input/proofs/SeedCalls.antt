@@ -1,4 +1,5 @@
 -- The calls that write seeds keep what holds of a store, whichever way they end.
+use Rattle.sizes.specs.Sizes as size
 use Prim.Native.Nat.{ℕ, ◌*◌, ◌≤◌}
 use native.Mathlib.Omega.{arith}
 use mathlib.Core.Path.{◌≡◌, refl, ap, ◌∙◌}
@@ -155,7 +156,7 @@ seed_value_keeps a k t r =
 -- ---- `seed_interval`
 
 module _ {t : Tables} (r : Reached t) (a : ℕ) (low high : ℤ) where
-  interval_beyond : {u : seeds.IntervalTables} → Marked (NearEither low high) t.header t.thresholds u.header u.thresholds → u.header.counts.thresholds ≤ 4094 →
+  interval_beyond : {u : seeds.IntervalTables} → Marked (NearEither low high) t.header t.thresholds u.header u.thresholds → u.header.counts.thresholds ≤ size.thresholds_before_run →
       length u.records ≡ length t.records → u.header.counts.provenance ≤ 1024 → Beyond t (from_interval u t)
   interval_beyond m f z l = record { rises = m.rises; old = m.old; marks = m.size; few_marks = f; records = z; few_records = l }
 

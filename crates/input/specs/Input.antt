@@ -1,5 +1,6 @@
 -- The calls of a store put together: one state with the header and all lent tables, on which each call is what its own crate says of it.
 use Rattle.std.specs.Prelude.{ℕ, ◌^◌, ◌<◌, ◌≡◌, List, [], ◌∷◌, ℤ, length}
+use Rattle.sizes.specs.Sizes as size
 use Rattle.integers.specs.Order.{Number}
 use Rattle.limits.specs.Refusal.{Told}
 use Rattle.limits.specs.Metered.{Run, going, stopped, Metered, pure, ◌>>=◌, zoom}
@@ -36,6 +37,9 @@ pub record Tables : Type 0 where
   pub records : List ℕ
   pub rules : List ℕ
 
+abbrev pub tables : Store → List ℕ → List ℕ → List ℕ → List ℕ → List ℤ → List ℕ → List ℕ → List ℕ → List ℕ → Tables
+tables h p n c o t e s r u = record { header = h; predicates = p; names = n; constants = c; order = o; thresholds = t; nodes = e; seeds = s; records = r; rules = u }
+
 -- ---- calls and their answers
 
 pub data Call : Type 0 where
@@ -62,7 +66,7 @@ TypedKey (number v) = Number v
 TypedKey (name s) = Unit {0}
 
 abbrev pub Whole : Rule → Type 0
-Whole r = (length r.bindings ≡ 32) × ((length r.guards ≡ 32) × (length r.heads ≡ 16))
+Whole r = (length r.bindings ≡ size.bindings) × ((length r.guards ≡ size.guards) × (length r.heads ≡ size.heads))
 
 abbrev pub Typed : Call → Type 0
 Typed (context c) = c < 2 ^ 32
@@ -78,120 +82,43 @@ Typed (rule r) = Whole r
 -- ---- the tables that a call is lent, and the store with what it leaves of them
 
 abbrev pub with_header : Store → Tables → Tables
-with_header s t = record {
-  header = s;
-  predicates = t.predicates;
-  names = t.names;
-  constants = t.constants;
-  order = t.order;
-  thresholds = t.thresholds;
-  nodes = t.nodes;
-  seeds = t.seeds;
-  records = t.records;
-  rules = t.rules;
-}
+with_header s t = tables s t.predicates t.names t.constants t.order t.thresholds t.nodes t.seeds t.records t.rules
 
 abbrev pub for_predicate : Tables → store.Tables
 for_predicate t = store.tables t.header t.predicates t.seeds
 
 abbrev pub from_predicate : store.Tables → Tables → Tables
-from_predicate u t = record {
-  header = u.header;
-  predicates = u.rows;
-  names = t.names;
-  constants = t.constants;
-  order = t.order;
-  thresholds = t.thresholds;
-  nodes = t.nodes;
-  seeds = u.seeds;
-  records = t.records;
-  rules = t.rules;
-}
+from_predicate u t = tables u.header u.rows t.names t.constants t.order t.thresholds t.nodes u.seeds t.records t.rules
 
 abbrev pub for_constant : Tables → constants.Tables
 for_constant t = constants.tables t.header t.names t.constants t.order t.thresholds
 
 abbrev pub from_constant : constants.Tables → Tables → Tables
-from_constant u t = record {
-  header = u.header;
-  predicates = t.predicates;
-  names = u.names;
-  constants = u.constants;
-  order = u.order;
-  thresholds = u.thresholds;
-  nodes = t.nodes;
-  seeds = t.seeds;
-  records = t.records;
-  rules = t.rules;
-}
+from_constant u t = tables u.header t.predicates u.names u.constants u.order u.thresholds t.nodes t.seeds t.records t.rules
 
 abbrev pub for_expression : Tables → expressions.Tables
 for_expression t = expressions.tables t.header t.nodes
 
 abbrev pub from_expression : expressions.Tables → Tables → Tables
-from_expression u t = record {
-  header = u.header;
-  predicates = t.predicates;
-  names = t.names;
-  constants = t.constants;
-  order = t.order;
-  thresholds = t.thresholds;
-  nodes = u.nodes;
-  seeds = t.seeds;
-  records = t.records;
-  rules = t.rules;
-}
+from_expression u t = tables u.header t.predicates t.names t.constants t.order t.thresholds u.nodes t.seeds t.records t.rules
 
 abbrev pub for_value : Tables → seeds.Tables
 for_value t = seeds.tables t.header t.seeds t.records
 
 abbrev pub from_value : seeds.Tables → Tables → Tables
-from_value u t = record {
-  header = u.header;
-  predicates = t.predicates;
-  names = t.names;
-  constants = t.constants;
-  order = t.order;
-  thresholds = t.thresholds;
-  nodes = t.nodes;
-  seeds = u.seeds;
-  records = u.records;
-  rules = t.rules;
-}
+from_value u t = tables u.header t.predicates t.names t.constants t.order t.thresholds t.nodes u.seeds u.records t.rules
 
 abbrev pub for_interval : Tables → seeds.IntervalTables
 for_interval t = seeds.interval_tables t.header t.seeds t.records t.thresholds
 
 abbrev pub from_interval : seeds.IntervalTables → Tables → Tables
-from_interval u t = record {
-  header = u.header;
-  predicates = t.predicates;
-  names = t.names;
-  constants = t.constants;
-  order = t.order;
-  thresholds = u.thresholds;
-  nodes = t.nodes;
-  seeds = u.seeds;
-  records = u.records;
-  rules = t.rules;
-}
+from_interval u t = tables u.header t.predicates t.names t.constants t.order u.thresholds t.nodes u.seeds u.records t.rules
 
 abbrev pub for_rule : Tables → producers.Tables
 for_rule t = producers.tables t.header t.rules t.records
 
 abbrev pub from_rule : producers.Tables → Tables → Tables
-from_rule u t = record {
-  header = u.header;
-  predicates = t.predicates;
-  names = t.names;
-  constants = t.constants;
-  order = t.order;
-  thresholds = t.thresholds;
-  nodes = t.nodes;
-  seeds = t.seeds;
-  records = u.records;
-  rules = u.rules;
-}
+from_rule u t = tables u.header t.predicates t.names t.constants t.order t.thresholds t.nodes t.seeds u.records u.rules
 
 -- ---- a call on the whole store
 

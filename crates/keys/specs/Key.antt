@@ -1,5 +1,6 @@
 -- Keys, their order, where the lent tables hold them, and the search for one. 01, "The added reader".
 use Rattle.std.specs.Prelude.{ℕ, ◌+◌, ◌*◌, min, cond, List, [], ◌∷◌, eqb, ℤ, get_or, take, drop}
+use Rattle.sizes.specs.Sizes as size
 use Rattle.std.proofs.lemmas.List.Edits.{sets}
 use Rattle.limits.specs.declared.Stop.{Stop}
 use Rattle.limits.specs.Metered.{Metered}
@@ -34,14 +35,14 @@ compare_keys (name s) (name t) = compare_bytes s t
 
 -- The payload of a name is its length, and no name is longer than 64 bytes. Bytes beyond the store are missing.
 unfoldable pub name_at : List ℕ → ℕ → ℕ → List ℕ
-name_at names id len = take (min len 64) (drop (64 * id) names)
+name_at names id len = take (min len size.name) (drop (size.name * id) names)
 
 -- a cell beyond the table reads as 0
 abbrev pub kind_at : List ℕ → ℕ → ℕ
-kind_at cells id = get_or cells (2 * id) 0
+kind_at cells id = get_or cells (size.constant_row * id) 0
 
 abbrev pub payload_at : List ℕ → ℕ → ℕ
-payload_at cells id = get_or cells (2 * id + 1) 0
+payload_at cells id = get_or cells (size.constant_row * id + 1) 0
 
 -- Kind 1 is a number; any other reads as a name. The key order holds ids of retained constants only, of kind 1 or 2.
 unfoldable pub key_at : List ℕ → List ℕ → ℕ → Key
@@ -49,10 +50,10 @@ key_at names cells id = cond (eqb (kind_at cells id) 1) (number (of_cell (payloa
 
 -- what is written of a constant: its two cells, and the bytes of a retained name; the rest of its 64 stay
 abbrev pub put_cells : List ℕ → ℕ → ℕ → ℕ → List ℕ
-put_cells cells id kind payload = sets cells (2 * id) (kind ∷ payload ∷ [])
+put_cells cells id kind payload = sets cells (size.constant_row * id) (kind ∷ payload ∷ [])
 
 abbrev pub put_name : List ℕ → ℕ → List ℕ → List ℕ
-put_name names id text = sets names (64 * id) text
+put_name names id text = sets names (size.name * id) text
 
 -- ---- the search
 

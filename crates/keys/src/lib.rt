@@ -20,23 +20,26 @@ pub enum Key<'a> {
 pub fn name_at<'a>(names: &'a [u8], id: usize, len: usize) -> &'a [u8]
     ensures { result.now ≡ name_at names.now id len }
 {
-    let start = id.saturating_mul(64).min(names.len());
+    let start = id.saturating_mul(sizes::NAME).min(names.len());
     let rest = &names[start..];
-    &rest[..len.min(64).min(rest.len())]
+    &rest[..len.min(sizes::NAME).min(rest.len())]
 }
 
 // The first cell of a constant; 0 beyond the table.
 pub fn kind_at(cells: &[u32], id: usize) -> u32
     ensures { result ≡ kind_at cells.now id }
 {
-    cells::cell_at(cells, id.saturating_mul(2))
+    cells::cell_at(cells, id.saturating_mul(sizes::CONSTANT_ROW))
 }
 
 // The second: a number's cell, or the length of a name.
 pub fn payload_at(cells: &[u32], id: usize) -> u32
     ensures { result ≡ payload_at cells.now id }
 {
-    cells::cell_at(cells, id.saturating_mul(2).saturating_add(1))
+    cells::cell_at(
+        cells,
+        id.saturating_mul(sizes::CONSTANT_ROW).saturating_add(1),
+    )
 }
 
 // The key of a constant.
@@ -80,7 +83,7 @@ pub fn seek_key(
 pub fn put_cells(cells: &mut [u32], id: usize, kind: u32, payload: u32)
     ensures { cells.new ≡ put_cells cells.old id kind payload }
 {
-    let start = id.saturating_mul(2);
+    let start = id.saturating_mul(sizes::CONSTANT_ROW);
     cells::put_cell(cells, start, kind);
     cells::put_cell(cells, start.saturating_add(1), payload);
 }
@@ -89,7 +92,7 @@ pub fn put_cells(cells: &mut [u32], id: usize, kind: u32, payload: u32)
 pub fn put_name(names: &mut [u8], id: usize, text: &[u8])
     ensures { names.new ≡ put_name names.old id text.now }
 {
-    let start = id.saturating_mul(64).min(names.len());
+    let start = id.saturating_mul(sizes::NAME).min(names.len());
     let end = start + text.len().min(names.len() - start);
     names[start..end].copy_from_slice(&text[..end - start]);
 }

@@ -5,6 +5,7 @@
 
 ghost use Rattle.std.specs.Prelude.{◌≡◌, ◌≤◌, [], length, IfSome};
 ghost use Rattle.std.proofs.Math.Option.{some, none};
+ghost use Rattle.sizes.specs.Sizes as size;
 ghost use Rattle.limits.specs.Metered.{answered};
 ghost use Rattle.lists.specs.Lists.{permits};
 ghost use Rattle.lists.specs.Ids.{ids_of, seen};
@@ -31,7 +32,7 @@ pub enum Widening {
 // A bound, and where `kept` the list of the first `len` ids: array, length and mark, by value, as 01 has it. Ids behind the list mean nothing.
 #[derive(Clone, Copy)]
 pub struct Abstract {
-    pub ids: [u16; 16],
+    pub ids: [u16; sizes::WIDTH],
     pub len: usize,
     pub bound: Bound,
     pub kept: bool,
@@ -67,7 +68,7 @@ pub fn reason_number(reason: Option<Widening>) -> u32
 pub fn constant_at(constants: &[u32], id: u16) -> Constant
     ensures { result ≡ constant_at constants.now id }
 {
-    let at = 2 * usize::from(id);
+    let at = sizes::CONSTANT_ROW * usize::from(id);
     match cells::cell_at(constants, at) {
         1 => Constant::Number(cells::of_cell(cells::cell_at(constants, at + 1))),
         2 => Constant::Name,
@@ -92,7 +93,7 @@ fn unlisted(bound: Bound, reason: Option<Widening>) -> Abstract
     ensures { value_of result ≡ value bound none reason }
 {
     Abstract {
-        ids: [0; 16],
+        ids: [0; sizes::WIDTH],
         len: 0,
         bound,
         kept: false,
@@ -144,7 +145,7 @@ fn join_lists(
 // The list that a meet goes through: the shorter one, the left one of two of one length.
 fn source<'a>(left: &'a Abstract, right: &'a Abstract) -> Option<&'a [u16]>
     ensures list { lent (λ l. l.now) result ≡ source (value_of left.now).values (value_of right.now).values }
-    ensures short { IfSome result (λ l. length l.now ≤ 16) }
+    ensures short { IfSome result (λ l. length l.now ≤ size.width) }
 {
     match (left.list(), right.list()) {
         (Some(l), Some(r)) => Some(if l.len() <= r.len() { l } else { r }),
@@ -190,7 +191,7 @@ impl Meeting<'_> {
 
     // What is left of a list: the ids that stay.
     fn sift(&self, source: &[u16], meter: &mut Meter) -> Result<Ids, Stop>
-        requires { length source.now ≤ 16 }
+        requires { length source.now ≤ size.width }
         ensures { seen ids_of result meter.new ≡ sift (value_of self.now.left.now) (value_of self.now.right.now) self.now.bound self.now.constants.now [] source.now meter.old }
     {
         let mut kept = Ids::new();
@@ -217,7 +218,7 @@ impl Meeting<'_> {
 
     // What is left of `source`, and the bound shrunk to it.
     fn through(&self, source: &[u16], meter: &mut Meter) -> Result<Abstract, Stop>
-        requires { length source.now ≤ 16 }
+        requires { length source.now ≤ size.width }
         ensures { answered_value result meter.new ≡ meet_lists (value_of self.now.left.now) (value_of self.now.right.now) self.now.bound self.now.constants.now (some source.now) meter.old }
     {
         let kept = self.sift(source, meter)?;
@@ -262,12 +263,12 @@ impl Abstract {
     // The list, where there is one.
     pub fn list(&self) -> Option<&[u16]>
         ensures list { lent (λ l. l.now) result ≡ (value_of self.now).values }
-        ensures short { IfSome result (λ l. length l.now ≤ 16) }
+        ensures short { IfSome result (λ l. length l.now ≤ size.width) }
     {
         if !self.kept {
             return None;
         }
-        Some(&self.ids[..self.len.min(16)])
+        Some(&self.ids[..self.len.min(sizes::WIDTH)])
     }
 
     // One constant. It has a list where it is retained and the width admits one.

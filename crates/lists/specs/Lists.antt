@@ -1,5 +1,6 @@
 -- Lists of constant ids, strictly increasing: their union, whether one has an id, and the charge of their entries.
 use Rattle.std.specs.Prelude.{ℕ, zero, suc, ◌+◌, min, Bool, true, false, cond, List, [], ◌∷◌, ◌++◌, ltb, leb, eqb, length, get_or}
+use Rattle.sizes.specs.Sizes as size
 use Rattle.std.proofs.Math.Option.{Option, some, none}
 use Rattle.limits.specs.declared.Stop.{Stop}
 use Rattle.limits.specs.Metered.{Metered, pure, ◌>>=◌, ◌>>◌}
@@ -30,7 +31,7 @@ retain_all n (suc count) = push n >> retain_all (n + 1) count
 unfoldable pub take_one : ℕ → ℕ → Metered Stop Meter Bool
 take_one width n = do
   holding n (work 1)
-  cond (leb (min width 16) n) (release n >> pure false) (push n >> pure true)
+  cond (leb (min width size.width) n) (release n >> pure false) (push n >> pure true)
 
 -- the ids `l` behind the kept ones, or none where they do not fit the width
 unfoldable pub collect : ℕ → List ℕ → List ℕ → Metered Stop Meter (Option (List ℕ))

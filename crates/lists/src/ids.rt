@@ -2,13 +2,14 @@
 #![tactic(auto)]
 
 ghost use Rattle.std.specs.Prelude.{◌≡◌, ◌<◌, ◌≤◌, [], ◌∷◌, ◌++◌, length, take};
+ghost use Rattle.sizes.specs.Sizes as size;
 
 // An array, and how many ids of it are the list.
 #[derive(Clone, Copy, Debug)]
 pub struct Ids {
-    ids: [u16; 16],
+    ids: [u16; sizes::WIDTH],
     len: usize,
-    ghost in_array: { len ≤ 16 },
+    ghost in_array: { len ≤ size.width },
 }
 
 impl Ids {
@@ -16,7 +17,7 @@ impl Ids {
         ensures { take result.len result.ids ≡ [] }
     {
         Ids {
-            ids: [0; 16],
+            ids: [0; sizes::WIDTH],
             len: 0,
         }
     }
@@ -28,7 +29,7 @@ impl Ids {
     }
 
     pub fn push(&mut self, id: u16)
-        requires { length (take self.old.len self.old.ids) < 16 }
+        requires { length (take self.old.len self.old.ids) < size.width }
         ensures { take self.new.len self.new.ids ≡ take self.old.len self.old.ids ++ (id ∷ []) }
     {
         self.ids[self.len] = id;
@@ -42,7 +43,7 @@ impl Ids {
     }
 
     // The array and the length.
-    pub fn into_parts(self) -> ([u16; 16], usize)
+    pub fn into_parts(self) -> ([u16; sizes::WIDTH], usize)
         ensures { take result.1 result.0 ≡ take self.len self.ids }
     {
         let ids = self.ids;

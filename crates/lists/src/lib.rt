@@ -38,7 +38,7 @@ fn take_one(width: u64, held: u64, meter: &mut Meter) -> Result<bool, Stop>
 {
     let step = meter.work(1);
     meter.holding(held, step)?;
-    if width.min(16) <= held {
+    if width.min(sizes::WIDTH as u64) <= held {
         meter.release(held);
         return Ok(false);
     }

@@ -15,7 +15,8 @@ use Rattle.integers.proofs.Stores.{sets_min}
 use Rattle.nodes.specs.declared.Expression.{Expression}
 use Rattle.nodes.specs.declared.Expression.TheVariants.{Absolute}
 use Rattle.nodes.specs.declared.Node.{Node}
-use Rattle.nodes.specs.Node.{node, unread, unary_of, binary_of, expression_of, row, node_at, nesting_at, expression_at, put_node}
+use Rattle.sizes.specs.Sizes.{node_row}
+use Rattle.nodes.specs.Node.{node, unread, unary_of, binary_of, expression_of, node_at, nesting_at, expression_at, put_node}
 
 -- ---- from cells to an expression
 
@@ -44,15 +45,15 @@ module _ (n : Node) (id : ℕ) where
 
 -- ---- a row, which begins at the table's end where it would begin beyond
 
-module _ (cells : List ℕ) (id at : ℕ) (start : at ≡ min (row * id) (length cells)) where
-  word : (k : ℕ) → get_or cells (at + k) 0 ≡ get_or cells (row * id + k) 0
-  word k = elim (dec_le (row * id) (length cells)) [
-    | yes h ↦ let e : at ≡ row * id = omega arith in ap (λ (n : ℕ). get_or cells (n + k) 0) e
-    | no h ↦ get_or-eq_default cells 0 {n = at + k} (omega arith) ∙ sym (get_or-eq_default cells 0 {n = row * id + k} (omega arith))
+module _ (cells : List ℕ) (id at : ℕ) (start : at ≡ min (node_row * id) (length cells)) where
+  word : (k : ℕ) → get_or cells (at + k) 0 ≡ get_or cells (node_row * id + k) 0
+  word k = elim (dec_le (node_row * id) (length cells)) [
+    | yes h ↦ let e : at ≡ node_row * id = omega arith in ap (λ (n : ℕ). get_or cells (n + k) 0) e
+    | no h ↦ get_or-eq_default cells 0 {n = at + k} (omega arith) ∙ sym (get_or-eq_default cells 0 {n = node_row * id + k} (omega arith))
   ]
 
-  first : get_or cells at 0 ≡ get_or cells (row * id) 0
-  first = ap (λ (n : ℕ). get_or cells n 0) (sym (add-zero at)) ∙ word 0 ∙ ap (λ (n : ℕ). get_or cells n 0) (add-zero (row * id))
+  first : get_or cells at 0 ≡ get_or cells (node_row * id) 0
+  first = ap (λ (n : ℕ). get_or cells n 0) (sym (add-zero at)) ∙ word 0 ∙ ap (λ (n : ℕ). get_or cells n 0) (add-zero (node_row * id))
 
   pub node_read : {k o l r : ℕ} {n : Node} → k ≡ get_or cells at 0 → o ≡ get_or cells (at + 1) 0 → l ≡ get_or cells (at + 2) 0 → r ≡ get_or cells (at + 3) 0 →
       n ≡ node k o l r → n ≡ node_at cells id
@@ -65,7 +66,7 @@ module _ (cells : List ℕ) (id at : ℕ) (start : at ≡ min (row * id) (length
 
   pub node_inside : let l = take (length cells - at) (drop at cells) in node (get_or l 0 0) (get_or l 1 0) (get_or l 2 0) (get_or l 3 0) ≡ node_at cells id
   unfolding node_at
-  node_inside = rw (rest, get_or-drop at cells 0 0, get_or-drop at cells 1 0, get_or-drop at cells 2 0, get_or-drop at cells 3 0, word 0, word 1, word 2, word 3, add-zero (row * id)) refl
+  node_inside = rw (rest, get_or-drop at cells 0 0, get_or-drop at cells 1 0, get_or-drop at cells 2 0, get_or-drop at cells 3 0, word 0, word 1, word 2, word 3, add-zero (node_row * id)) refl
 
   pub nesting_read : {n : ℕ} → n ≡ get_or cells (at + 4) 0 → n ≡ nesting_at cells id
   unfolding nesting_at
@@ -77,7 +78,7 @@ module _ (cells : List ℕ) (id at : ℕ) (start : at ≡ min (row * id) (length
   node_put n nesting p₁ p₂ p₃ p₄ p =
       p ∙ rw (p₄, p₃, p₂, p₁) (simp towards_suc)
       ∙ ap (λ (b : ℕ). sets cells b (n.kind ∷ n.operator ∷ n.left ∷ n.right ∷ nesting ∷ [])) start
-      ∙ sets_min (n.kind ∷ n.operator ∷ n.left ∷ n.right ∷ nesting ∷ []) cells (row * id)
+      ∙ sets_min (n.kind ∷ n.operator ∷ n.left ∷ n.right ∷ nesting ∷ []) cells (node_row * id)
 
 pub expression_read : (cells : List ℕ) (id : ℕ) {n : Node} {x : Expression} → n ≡ node_at cells id → x ≡ expression_of n id → x ≡ expression_at cells id
 unfolding expression_at

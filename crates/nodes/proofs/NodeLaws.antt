@@ -22,7 +22,8 @@ use Rattle.nodes.specs.declared.BinaryOp.TheVariants.{Add, Sub, Mul, Div, Mod, P
 use Rattle.nodes.specs.declared.Expression.{Expression}
 use Rattle.nodes.specs.declared.Expression.TheVariants.{Constant, Slot, Unary, Absolute, Binary, Unknown}
 use Rattle.nodes.specs.declared.Node.{Node}
-use Rattle.nodes.specs.Node.{binary_number, mark_of, node, node_of, same_node, widening_of, unread, unary_of, binary_of, expression_of, row, node_at, nesting_at, put_node}
+use Rattle.sizes.specs.Sizes.{node_row}
+use Rattle.nodes.specs.Node.{binary_number, mark_of, node, node_of, same_node, widening_of, unread, unary_of, binary_of, expression_of, node_at, nesting_at, put_node}
 
 -- the cells of a row
 abbrev row_of : Node → ℕ → List ℕ
@@ -30,12 +31,12 @@ row_of n k = n.kind ∷ n.operator ∷ n.left ∷ n.right ∷ k ∷ []
 
 -- ---- its own row
 
-module _ (cells : List ℕ) (id : ℕ) (n : Node) (k : ℕ) (room : row * id + 5 ≤ length cells) where
-  cell_back : (i : ℕ) → i < 5 → get_or (sets cells (row * id) (row_of n k)) (row * id + i) 0 ≡ get_or (row_of n k) i 0
-  cell_back i h = sets_in 0 (row_of n k) cells (row * id) i h room
+module _ (cells : List ℕ) (id : ℕ) (n : Node) (k : ℕ) (room : node_row * id + 5 ≤ length cells) where
+  cell_back : (i : ℕ) → i < 5 → get_or (sets cells (node_row * id) (row_of n k)) (node_row * id + i) 0 ≡ get_or (row_of n k) i 0
+  cell_back i h = sets_in 0 (row_of n k) cells (node_row * id) i h room
 
-  first_back : get_or (sets cells (row * id) (row_of n k)) (row * id) 0 ≡ n.kind
-  first_back = subst (λ (i : ℕ). get_or (sets cells (row * id) (row_of n k)) i 0 ≡ n.kind) (add-zero (row * id)) (cell_back 0 (omega arith))
+  first_back : get_or (sets cells (node_row * id) (row_of n k)) (node_row * id) 0 ≡ n.kind
+  first_back = subst (λ (i : ℕ). get_or (sets cells (node_row * id) (row_of n k)) i 0 ≡ n.kind) (add-zero (node_row * id)) (cell_back 0 (omega arith))
 
   pub node_back : node_at (put_node cells id n k) id ≡ n
   unfolding node_at put_node
@@ -48,16 +49,16 @@ module _ (cells : List ℕ) (id : ℕ) (n : Node) (k : ℕ) (room : row * id + 5
 -- ---- another row, whatever the table holds
 
 module _ (cells : List ℕ) (id : ℕ) (n : Node) (k j : ℕ) (other : j ≡ id → ⊥) where
-  cell_kept : (i : ℕ) → i < 5 → get_or (sets cells (row * id) (row_of n k)) (row * j + i) 0 ≡ get_or cells (row * j + i) 0
+  cell_kept : (i : ℕ) → i < 5 → get_or (sets cells (node_row * id) (row_of n k)) (node_row * j + i) 0 ≡ get_or cells (node_row * j + i) 0
   cell_kept i h = go (compared j id)
     where
-      go : Compared j id → get_or (sets cells (row * id) (row_of n k)) (row * j + i) 0 ≡ get_or cells (row * j + i) 0
-      go (less b) = sets_before 0 (row_of n k) cells (row * id) (row * j + i) (omega arith)
-      go (more b) = sets_after 0 (row_of n k) cells (row * id) (row * j + i) (omega arith)
+      go : Compared j id → get_or (sets cells (node_row * id) (row_of n k)) (node_row * j + i) 0 ≡ get_or cells (node_row * j + i) 0
+      go (less b) = sets_before 0 (row_of n k) cells (node_row * id) (node_row * j + i) (omega arith)
+      go (more b) = sets_after 0 (row_of n k) cells (node_row * id) (node_row * j + i) (omega arith)
       go (same b) = absurd (other b)
 
-  first_kept : get_or (sets cells (row * id) (row_of n k)) (row * j) 0 ≡ get_or cells (row * j) 0
-  first_kept = subst (λ (i : ℕ). get_or (sets cells (row * id) (row_of n k)) i 0 ≡ get_or cells i 0) (add-zero (row * j)) (cell_kept 0 (omega arith))
+  first_kept : get_or (sets cells (node_row * id) (row_of n k)) (node_row * j) 0 ≡ get_or cells (node_row * j) 0
+  first_kept = subst (λ (i : ℕ). get_or (sets cells (node_row * id) (row_of n k)) i 0 ≡ get_or cells i 0) (add-zero (node_row * j)) (cell_kept 0 (omega arith))
 
   pub node_kept : node_at (put_node cells id n k) j ≡ node_at cells j
   unfolding node_at put_node

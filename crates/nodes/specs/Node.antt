@@ -1,5 +1,6 @@
 -- Expressions as rows of a lent table: four cells that tell the expression, and a fifth for its nesting.
 use Rattle.std.specs.Prelude.{ℕ, ◌+◌, ◌*◌, Bool, true, false, cond, ◌&&◌, not, List, [], ◌∷◌, ltb, eqb, get_or}
+use Rattle.sizes.specs.Sizes as size
 use Rattle.std.proofs.lemmas.List.Edits.{sets}
 use Rattle.lattice.specs.declared.Widening.{Widening}
 use Rattle.lattice.specs.declared.Widening.TheVariants.{HeadForm, HeadTerm, UnboundVariable, SymbolSize, ValueWidth, Dependency}
@@ -91,18 +92,14 @@ expression_of n id =
 
 -- ---- a table of rows
 
--- the constant ROW
-abbrev pub row : ℕ
-row = 5
-
 unfoldable pub node_at : List ℕ → ℕ → Node
-node_at cells id = node (get_or cells (row * id) 0) (get_or cells (row * id + 1) 0) (get_or cells (row * id + 2) 0) (get_or cells (row * id + 3) 0)
+node_at cells id = node (get_or cells (size.node_row * id) 0) (get_or cells (size.node_row * id + 1) 0) (get_or cells (size.node_row * id + 2) 0) (get_or cells (size.node_row * id + 3) 0)
 
 unfoldable pub nesting_at : List ℕ → ℕ → ℕ
-nesting_at cells id = get_or cells (row * id + 4) 0
+nesting_at cells id = get_or cells (size.node_row * id + 4) 0
 
 unfoldable pub expression_at : List ℕ → ℕ → Expression
 expression_at cells id = expression_of (node_at cells id) id
 
 unfoldable pub put_node : List ℕ → ℕ → Node → ℕ → List ℕ
-put_node cells id n nesting = sets cells (row * id) (n.kind ∷ n.operator ∷ n.left ∷ n.right ∷ nesting ∷ [])
+put_node cells id n nesting = sets cells (size.node_row * id) (n.kind ∷ n.operator ∷ n.left ∷ n.right ∷ nesting ∷ [])

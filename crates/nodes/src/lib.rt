@@ -3,7 +3,8 @@
 #![tactic(auto)]
 
 ghost use Rattle.std.specs.Prelude.{◌≡◌, ◌*◌, min, get_or, set};
-ghost use Rattle.nodes.specs.Node.{unary_number, binary_number, node_of, widening_of, unread, unary_of, binary_of, expression_of, row, node_at, nesting_at, expression_at, put_node};
+ghost use Rattle.sizes.specs.Sizes as size;
+ghost use Rattle.nodes.specs.Node.{unary_number, binary_number, node_of, widening_of, unread, unary_of, binary_of, expression_of, node_at, nesting_at, expression_at, put_node};
 
 use lattice::Widening;
 
@@ -45,9 +46,6 @@ pub struct Node {
     pub left: u64,
     pub right: u64,
 }
-
-// The cells of a row: a node's four, and its nesting.
-pub const ROW: usize = 5;
 
 // What cells read as that no call writes.
 const UNREAD: Expression = Expression::Unknown(false, Widening::HeadForm);
@@ -107,9 +105,9 @@ impl From<Expression> for Node {
 
 // Where a row begins. All rows beyond the table begin at its end.
 fn start(len: usize, id: usize) -> usize
-    ensures { result ≡ min (row * id) len }
+    ensures { result ≡ min (size.node_row * id) len }
 {
-    ROW.saturating_mul(id).min(len)
+    sizes::NODE_ROW.saturating_mul(id).min(len)
 }
 
 // A cell, or 0 beyond the table.

@@ -1,4 +1,5 @@
 -- What the code of numeric answers is what the definitions say, over plain variables: one law for each way out.
+use Rattle.sizes.specs.Sizes as size
 use Prim.Native.Nat.{ℕ, zero, suc, ◌+◌, ◌-◌, ◌*◌, ◌≤◌, ◌<◌}
 use native.Mathlib.Omega.{arith}
 use mathlib.Core.Path.{◌≡◌, refl, sym, ap, ◌∙◌, subst}
@@ -21,7 +22,7 @@ use Rattle.results.specs.Result.{place}
 use Rattle.store.specs.declared.Phase.{Phase}
 use Rattle.store.specs.declared.Phase.TheVariants.{Absent, Open, Completed, Stopped}
 use Rattle.store.specs.declared.Store.{Store}
-use Rattle.rules.specs.Rule.{row}
+use Rattle.sizes.specs.Sizes.{rule_row}
 use Rattle.rules.specs.Read.{slots_at}
 use Rattle.numeric.specs.Reading.{Reading, given, refused, in_phase, reading, there, contexts_of, nth, bound_at, name_of}
 use Rattle.numeric.specs.Answers.{permits, reads}
@@ -150,18 +151,18 @@ sized_true false p h = let z : ◌≡◌ {A = ℕ} 0 1 = ap mark h in absurd (om
     mark (Ok u) = 1
     mark (Err e) = 0
 
-pub in_table : (rules : List ℕ) (r k : ℕ) (slots : ℕ) (p : Phase) {u : Unit {0}} → permits (eqb (length rules) (row * 256) && eqb slots 32768) p ≡ Ok u → k < slots_at rules r → (r < 256) × (k < 16)
+pub in_table : (rules : List ℕ) (r k : ℕ) (slots : ℕ) (p : Phase) {u : Unit {0}} → permits (eqb (length rules) size.rule_cells && eqb slots size.bounds_cells) p ≡ Ok u → k < slots_at rules r → (r < 256) × (k < 16)
 unfolding slots_at
 in_table rules r k slots p z h = (go (ltb r 256) refl, omega arith)
   where
-    whole : length rules ≡ row * 256
-    whole = eqb-true (length rules) (row * 256) (and_left _ (eqb slots 32768) (sized_true _ p z))
+    whole : length rules ≡ size.rule_cells
+    whole = eqb-true (length rules) size.rule_cells (and_left _ (eqb slots size.bounds_cells) (sized_true _ p z))
 
     go : (t : Bool) → ltb r 256 ≡ t → r < 256
     go true e = ltb-true r 256 e
     go false e =
         let b : 256 ≤ r = ltb-false r 256 e in
-        let n : get_or rules (row * r) 0 ≡ 0 = get_or-eq_default rules 0 (omega (arith, whole)) in
+        let n : get_or rules (rule_row * r) 0 ≡ 0 = get_or-eq_default rules 0 (omega (arith, whole)) in
         absurd (omega (arith, n))
 
 -- ---- names, a bound at its place

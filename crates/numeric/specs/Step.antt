@@ -7,7 +7,7 @@ use Rattle.interval.specs.declared.Bound.{Bound}
 use Rattle.lattice.specs.Value.{Value}
 use Rattle.store.specs.declared.Store.{Store}
 use Rattle.store.specs.Store.{fresh_of}
-use Rattle.input.specs.Input.{Tables, with_header, call}
+use Rattle.input.specs.Input.{Tables, tables, with_header, call}
 use Rattle.input.specs.Input as input
 use Rattle.engine.specs.Call.{read, run_call}
 use Rattle.engine.specs.Call as engine
@@ -69,18 +69,7 @@ abbrev pub for_run : State → engine.Tables
 for_run s = engine.tables s.tables.header s.tables.thresholds s.arguments s.slots
 
 abbrev pub with_thresholds : engine.Tables → Tables → Tables
-with_thresholds u t = record {
-  header = u.header;
-  predicates = t.predicates;
-  names = t.names;
-  constants = t.constants;
-  order = t.order;
-  thresholds = u.thresholds;
-  nodes = t.nodes;
-  seeds = t.seeds;
-  records = t.records;
-  rules = t.rules;
-}
+with_thresholds u t = tables u.header t.predicates t.names t.constants t.order u.thresholds t.nodes t.seeds t.records t.rules
 
 abbrev pub from_run : engine.Tables → State → State
 from_run u s = state (with_thresholds u s.tables) u.arguments u.slots

@@ -3,7 +3,7 @@
 #![tactic(auto)]
 
 ghost use Rattle.std.specs.Prelude.{◌≡◌, ◌&&◌, ◌*◌, ◌<◌, ◌≤◌, eqb, length, get_or};
-ghost use Rattle.rules.specs.Rule.{row};
+ghost use Rattle.sizes.specs.Sizes as size;
 ghost use Rattle.results.specs.Result.{place};
 ghost use Rattle.numeric.specs.Reading.{given, contexts_of, nth, bound_at, kind_of, name_of, argument_reading, context_count_reading, context_reading, slot_reading, key_reading, name_reading, status_reading};
 ghost use Rattle.lattice.specs.Value.{value_of};
@@ -20,9 +20,6 @@ pub enum Ended {
     Completed,
     Stopped(Stop, Option<u32>),
 }
-
-// The records that the table of provenance has rows for.
-const RECORDS: usize = 1024;
 
 // Whether a phase permits readings over tables of these sizes.
 fn permit(sized: bool, phase: Phase) -> Result<(), Refusal>
@@ -43,7 +40,7 @@ fn permit(sized: bool, phase: Phase) -> Result<(), Refusal>
 pub fn argument(store: &Store, arguments: &[u32], argument: u64) -> Result<Abstract, Refusal>
     ensures { reads value_of result ≡ argument_reading store.now arguments.now argument }
 {
-    permit(arguments.len() == rounds::ARGUMENTS, store.phase)?;
+    permit(arguments.len() == sizes::ARGUMENT_CELLS, store.phase)?;
     if store.counts.positions as u64 <= argument {
         return Err(Refusal::Missing);
     }
@@ -52,15 +49,15 @@ pub fn argument(store: &Store, arguments: &[u32], argument: u64) -> Result<Abstr
 
 // Whether a record is of an argument.
 fn is_of(records: &[u32], place: usize, argument: u64) -> bool
-    requires { place < 1024 }
-    ensures { result ≡ eqb (get_or records.now (2 * place) 0) argument }
+    requires { place < size.records }
+    ensures { result ≡ eqb (get_or records.now (size.record_row * place) 0) argument }
 {
-    cells::cell_at(records, 2 * place) as u64 == argument
+    cells::cell_at(records, sizes::RECORD_ROW * place) as u64 == argument
 }
 
 // How many of the first `count` records are of an argument. The count stands in the header, and the table has one size.
 fn count_contexts(records: &[u32], count: usize, argument: u64) -> u64
-    requires { count ≤ 1024 }
+    requires { count ≤ size.records }
     ensures { result ≡ length (contexts_of records.now count argument) }
 {
     let mut found = 0;
@@ -74,14 +71,14 @@ fn count_contexts(records: &[u32], count: usize, argument: u64) -> u64
 
 // The k-th context of an argument among the first `count` records.
 fn find_context(records: &[u32], count: usize, argument: u64, k: u64) -> Result<u64, Refusal>
-    requires { count ≤ 1024 }
+    requires { count ≤ size.records }
     ensures { reads (λ n. n) result ≡ nth (contexts_of records.now count argument) k }
 {
     let mut found = 0;
     for i in 0..count {
         if is_of(records, i, argument) {
             if found == k {
-                return Ok(cells::cell_at(records, 2 * i + 1) as u64);
+                return Ok(cells::cell_at(records, sizes::RECORD_ROW * i + 1) as u64);
             }
             found += 1;
         }
@@ -94,11 +91,15 @@ fn find_context(records: &[u32], count: usize, argument: u64, k: u64) -> Result<
 pub fn context_count(store: &Store, records: &[u32], argument: u64) -> Result<u64, Refusal>
     ensures { reads (λ n. n) result ≡ context_count_reading store.now records.now argument }
 {
-    permit(records.len() == 2 * RECORDS, store.phase)?;
+    permit(records.len() == sizes::RECORD_CELLS, store.phase)?;
     if store.counts.positions as u64 <= argument {
         return Err(Refusal::Missing);
     }
-    Ok(count_contexts(records, store.counts.provenance.min(RECORDS), argument))
+    Ok(count_contexts(
+        records,
+        store.counts.provenance.min(sizes::RECORDS),
+        argument,
+    ))
 }
 
 // The k-th of them, in the order recorded.
@@ -106,16 +107,21 @@ pub fn context_count(store: &Store, records: &[u32], argument: u64) -> Result<u6
 pub fn context(store: &Store, records: &[u32], argument: u64, k: u64) -> Result<u64, Refusal>
     ensures { reads (λ n. n) result ≡ context_reading store.now records.now argument k }
 {
-    permit(records.len() == 2 * RECORDS, store.phase)?;
+    permit(records.len() == sizes::RECORD_CELLS, store.phase)?;
     if store.counts.positions as u64 <= argument {
         return Err(Refusal::Missing);
     }
-    find_context(records, store.counts.provenance.min(RECORDS), argument, k)
+    find_context(
+        records,
+        store.counts.provenance.min(sizes::RECORDS),
+        argument,
+        k,
+    )
 }
 
 // The bound that stands at a place of the table of slots.
 fn bound_at(cells: &[u32], at: usize) -> Bound
-    requires { at < 32768 }
+    requires { at < size.bounds_cells }
     ensures { result ≡ bound_at cells.now at }
 {
     Bound {
@@ -130,17 +136,17 @@ fn bound_at(cells: &[u32], at: usize) -> Bound
 
 // Where the bound of a slot stands, before guards or after them.
 fn place(rule: usize, slot: usize, after: bool) -> usize
-    requires { (rule < 256) × (slot < 16) }
+    requires { (rule < size.rules) × (slot < size.slots) }
     ensures { result ≡ place rule slot after }
 {
-    let at = results::RULE * rule + 8 * slot;
-    if after { at + 4 } else { at }
+    let at = sizes::BOUNDS_ROW * rule + sizes::SLOT_ROW * slot;
+    if after { at + sizes::BOUND_ROW } else { at }
 }
 
 fn is_slots_sized(rules: usize, slots: usize) -> bool
-    ensures { result ≡ eqb rules (row * 256) && eqb slots 32768 }
+    ensures { result ≡ eqb rules size.rule_cells && eqb slots size.bounds_cells }
 {
-    rules == rules::ROW * 256 && slots == results::BOUNDS
+    rules == sizes::RULE_CELLS && slots == sizes::BOUNDS_CELLS
 }
 
 // The bound of a rule's slot, before guards or after them.
@@ -170,7 +176,7 @@ pub fn slot(
 pub fn key(store: &Store, constants: &[u32], constant: u64) -> Result<Constant, Refusal>
     ensures { reads kind result ≡ key_reading store.now constants.now constant }
 {
-    permit(constants.len() == 2048, store.phase)?;
+    permit(constants.len() == sizes::CONSTANT_CELLS, store.phase)?;
     if store.counts.constants as u64 <= constant {
         return Err(Refusal::Missing);
     }
@@ -198,9 +204,9 @@ fn name_of<'a>(names: &'a [u8], constants: &[u32], id: usize) -> &'a [u8]
 }
 
 fn is_names_sized(names: usize, constants: usize) -> bool
-    ensures { result ≡ eqb names 65536 && eqb constants 2048 }
+    ensures { result ≡ eqb names size.name_cells && eqb constants size.constant_cells }
 {
-    names == 65536 && constants == 2048
+    names == sizes::NAME_CELLS && constants == sizes::CONSTANT_CELLS
 }
 
 // The name of a constant, a part of the lent name store, as 01 names it: empty where it has none that is retained.

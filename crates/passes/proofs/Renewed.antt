@@ -1,5 +1,6 @@
 -- What a pass makes of the current values, from what it makes of each: R of an argument, its new value, and whether it has changed. Live entries
 -- are counted beside it: those of the current values, and while a pass is under way those of the candidates and of the next values.
+use Rattle.sizes.specs.Sizes as size
 use Prim.Native.Nat.{ℕ, zero, suc, ◌+◌, ◌*◌, ◌≤◌, ◌<◌}
 use native.Mathlib.Omega.{arith}
 use native.Mathlib.Decide.{dec_lt}
@@ -20,7 +21,7 @@ use Rattle.limits.proofs.Monad.{Holds, Ensures}
 use Rattle.limits.proofs.Ends.{Ends, completes, stops, ends_pure, ends_bind, ends_through}
 use Rattle.limits.proofs.Live.{LiveIn, Lives}
 use Rattle.lattice.specs.Value.{Value}
-use Rattle.rows.specs.Row.{row, entries_of, value_at, put}
+use Rattle.rows.specs.Row.{entries_of, value_at, put}
 use Rattle.rows.proofs.Good.{Good}
 use Rattle.rows.proofs.RowLaws.{length_put, put_back, put_other}
 use Rattle.slots.specs.Slots.{total}
@@ -125,7 +126,7 @@ module _ (thresholds : List ℤ) (current candidates : List ℕ) (R : ℕ → Va
   renew_ends e n few b c growth r q = go (advance_ends (e + total current n + total candidates n) 0 n (omega arith) false (steps b blank growth) begun)
     where
       begun : Done (e + total current n + total candidates n) 0 false (steps b blank growth)
-      begun = record { live = omega arith; room = (rw (length-replicate {A = ℕ} (row * 256) 0) (omega arith), blank_formed (row * 256)); rows = λ j l. absurd (omega arith) }
+      begun = record { live = omega arith; room = (rw (length-replicate {A = ℕ} size.argument_cells 0) (omega arith), blank_formed size.argument_cells); rows = λ j l. absurd (omega arith) }
 
       go : {x : Run Stop Steps Bool} → Ends (λ changed t. Done (e + total current n + total candidates n) (0 + n) changed t) (λ _ t. t.budget.statistics.entries ≡ e + total current n + total candidates n) x →
           Ends (λ changed t. Passed R e n changed t) (λ _ t. (t.budget.statistics.entries ≡ e + total current n) × (t.current ≡ current)) (replaced n candidates (ascent b c current growth) x)

@@ -151,7 +151,7 @@ fn renew(
 ) -> Result<bool, Stop>
     ensures { answered result (ascent course.new.budget course.new.context current.new growth.new) ≡ renew positions thresholds.now candidates.now (ascent course.old.budget course.old.context current.old growth.old) }
 {
-    let mut next = [0u32; rounds::ARGUMENTS];
+    let mut next = [0u32; sizes::ARGUMENT_CELLS];
     let advanced = advance(
         thresholds,
         current,
@@ -178,7 +178,7 @@ pub fn pass(
 ) -> Result<bool, Stop>
     ensures { answered result (ascent course.new.budget course.new.context current.new growth.new) ≡ pass (given_in given.now) thresholds.now (ascent course.old.budget course.old.context current.old growth.old) }
 {
-    let mut candidates = [0u32; rounds::ARGUMENTS];
+    let mut candidates = [0u32; sizes::ARGUMENT_CELLS];
     rounds::image(given, current, &mut candidates, course)?;
     renew(
         thresholds,

@@ -1,4 +1,5 @@
 -- What the checks of a rule leave, over plain variables.
+use Rattle.sizes.specs.Sizes as size
 use Prim.Native.Nat.{ℕ, suc, ◌+◌, ◌<◌, ◌≤◌}
 use native.Mathlib.Omega.{arith}
 use native.Mathlib.Numerals.{add-one}
@@ -230,7 +231,7 @@ lengthy r e =
 
 room_enough : (c : Context) (n : ℕ) → recordable c n ≡ true → Room 16 c n
 room_enough None n e = tt
-room_enough (Some c) n e = omega (arith, leb-true n 1008 e)
+room_enough (Some c) n e = omega (arith, leb-true n size.records_before_call e)
 
 pub roomy : (s : Store) → spacious s ≡ true → (s.counts.rules < 256) × ((s.counts.positions ≤ 256) × Room 16 s.context s.counts.provenance)
 roomy s e =

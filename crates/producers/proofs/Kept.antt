@@ -1,5 +1,6 @@
 -- What the call of a rule leaves, whichever way it ends. One that is accepted is in scope and becomes the next row; a refused one leaves
 -- charges and records.
+use Rattle.sizes.specs.Sizes as size
 use Prim.Native.Nat.{ℕ, ◌+◌, ◌*◌, ◌≤◌, ◌<◌}
 use native.Mathlib.Omega.{arith}
 use mathlib.Core.Path.{◌≡◌, refl, sym, ap, subst, ◌∙◌}
@@ -23,10 +24,9 @@ use Rattle.limits.specs.Meter.{meter_of, with_meter}
 use Rattle.limits.specs.Budget.{links}
 use Rattle.limits.proofs.ChargeLaws.{limit_late}
 use Rattle.limits.proofs.Ends.{Ends, completes, stops, ends_pure, ends_as, ends_both, ends_test, ends_then, ends_through}
-use Rattle.nodes.specs.Node as expressions
 use Rattle.rules.specs.declared.Head.{Head}
 use Rattle.rules.specs.declared.Rule.{Rule}
-use Rattle.rules.specs.Rule.{bindings_of, guards_of, heads_of, row}
+use Rattle.rules.specs.Rule.{bindings_of, guards_of, heads_of}
 use Rattle.rules.proofs.RuleLaws.{Short, SmallContext, Row, rule_back, rule_kept, length_rule}
 use Rattle.store.specs.Store.{Context}
 use Rattle.std.proofs.Common.{None, Some}
@@ -266,12 +266,12 @@ spacious_roomy s h =
       positions = leb-true s.counts.positions 256 (and_left c d (and_right b (c && d) p));
     }
 
-sizes_rules : (nodes rules recorded : ℕ) → sizes nodes rules recorded ≡ true → rules ≡ row * 256
+sizes_rules : (nodes rules recorded : ℕ) → sizes nodes rules recorded ≡ true → rules ≡ size.rule_cells
 sizes_rules nodes rules recorded h =
-    let a = eqb nodes (expressions.row * 1024) in
-    let b = eqb rules (row * 256) in
-    let c = eqb recorded 2048 in
-    eqb-true rules (row * 256) (and_left b c (and_right a (b && c) h))
+    let a = eqb nodes size.node_cells in
+    let b = eqb rules size.rule_cells in
+    let c = eqb recorded size.record_cells in
+    eqb-true rules size.rule_cells (and_left b c (and_right a (b && c) h))
 
 spends_cost : (r : Rule) → Spends (cost r)
 unfolding cost
@@ -279,7 +279,7 @@ spends_cost r = spends_then (spends_work 1) (spends_links (r.slots + r.lengths.b
 
 -- ---- a rule that passes the tests
 
-module _ (nodes : List ℕ) (r : Rule) (t : Tables) (long : length t.rules ≡ row * 256) (slots : r.slots ≤ 16) (short : Short r) (room : Roomy t.header) (small : SmallContext t.header.context) where
+module _ (nodes : List ℕ) (r : Rule) (t : Tables) (long : length t.rules ≡ size.rule_cells) (slots : r.slots ≤ 16) (short : Short r) (room : Roomy t.header) (small : SmallContext t.header.context) where
   few_heads : length (heads_of r) ≤ 16
   few_heads = simp length-take (omega (arith, short.heads))
 

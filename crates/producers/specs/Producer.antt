@@ -1,5 +1,6 @@
 -- `Input::rule`, on the header and the lent tables as they stand, with `check_expression`. Checks go in the Rust's order.
 use Rattle.std.specs.Prelude.{ℕ, zero, suc, ◌+◌, ◌*◌, Bool, ◌&&◌, List, [], ◌∷◌, leb, ltb, eqb, length}
+use Rattle.sizes.specs.Sizes as size
 use Rattle.limits.specs.declared.Stop.{Stop}
 use Rattle.limits.specs.declared.Budget.{Budget}
 use Rattle.limits.specs.declared.Refusal.TheVariants.{Closed, Shape, Full, Limit, Missing, MissingSlot}
@@ -12,14 +13,13 @@ use Rattle.limits.specs.Budget.{work, links}
 use Rattle.nodes.specs.declared.Expression.{Expression}
 use Rattle.nodes.specs.declared.Expression.TheVariants.{Constant, Slot, Unary, Absolute, Binary, Unknown}
 use Rattle.nodes.specs.Node.{expression_at}
-use Rattle.nodes.specs.Node as expressions
 use Rattle.rules.specs.declared.Binding.{Binding}
 use Rattle.rules.specs.declared.Binding.TheVariants.{Positive, Assign, Range, Aggregate}
 use Rattle.rules.specs.declared.Guard.{Guard}
 use Rattle.rules.specs.declared.Guard.TheVariants.{Compare, Membership}
 use Rattle.rules.specs.declared.Head.{Head}
 use Rattle.rules.specs.declared.Rule.{Rule}
-use Rattle.rules.specs.Rule.{bindings_of, guards_of, heads_of, row, put_rule}
+use Rattle.rules.specs.Rule.{bindings_of, guards_of, heads_of, put_rule}
 use Rattle.store.specs.declared.Store.{Store}
 use Rattle.store.specs.Store.{with_budget, with_rules}
 use Rattle.store.specs.Calls.{unless, open?, charged}
@@ -115,15 +115,15 @@ in_records = zoom (λ t. records t.header t.records) (λ r t. tables r.header t.
 -- 01, refusal 1: "an integer query, [..] or a rule over 16 slots, 32 bindings, 32 guards or 16 heads"
 abbrev pub shapely : Rule → Bool
 shapely r =
-    leb r.slots 16 && (leb r.lengths.bindings 32 && (leb r.lengths.guards 32 && (leb r.lengths.heads 16 && eqb r.lengths.queries 0)))
+    leb r.slots size.slots && (leb r.lengths.bindings size.bindings && (leb r.lengths.guards size.guards && (leb r.lengths.heads size.heads && eqb r.lengths.queries 0)))
 
 abbrev pub sizes : ℕ → ℕ → ℕ → Bool
-sizes nodes rules records = eqb nodes (expressions.row * 1024) && (eqb rules (row * 256) && eqb records 2048)
+sizes nodes rules records = eqb nodes size.node_cells && (eqb rules size.rule_cells && eqb records size.record_cells)
 
 -- refusal 2; more rows than the tables have meet it as well
 abbrev pub spacious : Store → Bool
 spacious s =
-    ltb s.counts.rules 256 && (leb s.counts.expressions 1024 && (leb s.counts.positions 256 && recordable s.context s.counts.provenance))
+    ltb s.counts.rules size.rules && (leb s.counts.expressions size.expressions && (leb s.counts.positions size.positions && recordable s.context s.counts.provenance))
 
 -- a unit of work, then one charge for all its links
 unfoldable pub cost : Rule → Metered Stop Budget (Unit {0})

@@ -3,6 +3,7 @@
 #![tactic(auto)]
 
 ghost use Rattle.std.specs.Prelude.{◌≡◌, ◌+◌, ◌≤◌, ◌<◌, ℕ, length, true};
+ghost use Rattle.sizes.specs.Sizes as size;
 ghost use Rattle.limits.specs.declared.Meter.{Meter};
 ghost use Rattle.limits.specs.Metered.{Metered};
 ghost use Rattle.limits.specs.Refusal.{Told, replied};
@@ -94,7 +95,7 @@ impl Checker<'_> {
 
     // A head: its expression, then its argument, which is recorded at once.
     fn check_head(self, store: &mut Store, table: &mut [u32], head: Head) -> Result<(), Refusal>
-        requires { (store.old.counts.positions ≤ 256) × Room 1 store.old.context store.old.counts.provenance }
+        requires { (store.old.counts.positions ≤ size.positions) × Room 1 store.old.context store.old.counts.provenance }
         ensures { replied result (records store.new table.new) ≡ check_head (scope_in self.entry) head (records store.old table.old) }
     {
         let mut meter = store.budget.meter();
@@ -111,7 +112,7 @@ impl Checker<'_> {
         table: &mut [u32],
         heads: &[Head],
     ) -> Result<(), Refusal>
-        requires { (length heads.now ≤ 16) × ((store.old.counts.positions ≤ 256) × Room (length heads.now) store.old.context store.old.counts.provenance) }
+        requires { (length heads.now ≤ size.heads) × ((store.old.counts.positions ≤ size.positions) × Room (length heads.now) store.old.context store.old.counts.provenance) }
         ensures { replied result (records store.new table.new) ≡ check_heads (scope_in self.entry) heads.now (records store.old table.old) }
     {
         for head in heads {
@@ -122,7 +123,7 @@ impl Checker<'_> {
 
     // The bindings, then the guards.
     fn check_body(self, rule: &Rule, meter: &mut Meter) -> Result<(), Refusal>
-        requires { (rule.now.lengths.bindings ≤ 32) × (rule.now.lengths.guards ≤ 32) }
+        requires { (rule.now.lengths.bindings ≤ size.bindings) × (rule.now.lengths.guards ≤ size.guards) }
         ensures { replied result meter.new ≡ check_body self.entry.arguments (scope_in self.entry) rule.now meter.old }
     {
         self.check_each(&rule.bindings[..rule.lengths.bindings as usize], meter)?;
@@ -178,10 +179,10 @@ impl Part for Guard {
 fn is_shapely(rule: &Rule) -> bool
     ensures { result ≡ shapely rule.now }
 {
-    rule.slots <= 16
-        && rule.lengths.bindings <= 32
-        && rule.lengths.guards <= 32
-        && rule.lengths.heads <= 16
+    rule.slots <= sizes::SLOTS as u64
+        && rule.lengths.bindings <= sizes::BINDINGS as u64
+        && rule.lengths.guards <= sizes::GUARDS as u64
+        && rule.lengths.heads <= sizes::HEADS as u64
         && rule.lengths.queries == 0
 }
 
@@ -189,16 +190,16 @@ fn is_shapely(rule: &Rule) -> bool
 fn is_sized(nodes: usize, rules: usize, records: usize) -> bool
     ensures { result ≡ sizes nodes rules records }
 {
-    nodes == nodes::ROW * 1024 && rules == rules::ROW * 256 && records == 2 * provenance::RECORDS
+    nodes == sizes::NODE_CELLS && rules == sizes::RULE_CELLS && records == sizes::RECORD_CELLS
 }
 
 // Whether the tables have the rows that the header counts, and room for one rule more.
 fn has_room(store: &Store) -> bool
     ensures { result ≡ spacious store.now }
 {
-    store.counts.rules < 256
-        && store.counts.expressions <= 1024
-        && store.counts.positions <= 256
+    store.counts.rules < sizes::RULES
+        && store.counts.expressions <= sizes::EXPRESSIONS
+        && store.counts.positions <= sizes::POSITIONS
         && provenance::is_recordable(store.context, store.counts.provenance)
 }
 
@@ -222,7 +223,7 @@ fn check_rule(
     table: &mut [u32],
     rule: &Rule,
 ) -> Result<(), Refusal>
-    requires { (shapely rule.now ≡ true) × ((store.old.counts.positions ≤ 256) × Room 16 store.old.context store.old.counts.provenance) }
+    requires { (shapely rule.now ≡ true) × ((store.old.counts.positions ≤ size.positions) × Room size.heads store.old.context store.old.counts.provenance) }
     ensures { replied result (records store.new table.new) ≡ check_rule nodes.now rule.now (records store.old table.old) }
 {
     let checker = Checker {

@@ -1,5 +1,6 @@
 -- `Input::provenance`: which contexts produced an argument, as records of argument and context in the order recorded.
 use Rattle.std.specs.Prelude.{ℕ, ◌+◌, ◌*◌, ◌≤◌, Bool, true, List, [], ◌∷◌, leb, ltb}
+use Rattle.sizes.specs.Sizes as size
 use Rattle.std.proofs.lemmas.List.Edits.{sets}
 use Rattle.limits.specs.declared.Stop.{Stop}
 use Rattle.limits.specs.declared.Budget.{Budget}
@@ -27,7 +28,7 @@ paying m = zoom (λ t. t.header) (λ s t. records s t.table) (charged m)
 abbrev pub add_record : ℕ → ℕ → Metered Told Records (Unit {0})
 add_record a c t =
     let n = t.header.counts.provenance in
-    going tt (records (with_provenance (n + 1) t.header) (sets t.table (2 * n) (a ∷ c ∷ [])))
+    going tt (records (with_provenance (n + 1) t.header) (sets t.table (size.record_row * n) (a ∷ c ∷ [])))
 
 -- without a context nothing is recorded
 abbrev pub record_in : ℕ → Context → Metered Told Records (Unit {0})
@@ -40,9 +41,9 @@ provenance a = unless (λ t. ltb a t.header.counts.positions) Missing (λ t. rec
 -- 01, refusal 2: "provenance 1,024 (seeds and rules with a context need at most 1,008 standing)"
 abbrev pub recordable : Context → ℕ → Bool
 recordable None standing = true
-recordable (Some c) standing = leb standing 1008
+recordable (Some c) standing = leb standing size.records_before_call
 
 -- so many records more have room, where a context is in force
 abbrev pub Room : ℕ → Context → ℕ → Type 0
 Room n None standing = Unit {0}
-Room n (Some c) standing = standing + n ≤ 1024
+Room n (Some c) standing = standing + n ≤ size.records

@@ -3,35 +3,34 @@
 
 ghost use Rattle.std.specs.Prelude.{◌≡◌, ◌+◌, ◌*◌, ◌≤◌, [], ◌∷◌};
 ghost use Rattle.std.proofs.lemmas.List.Edits.{sets};
+ghost use Rattle.sizes.specs.Sizes as size;
 ghost use Rattle.limits.specs.Refusal.{replied};
 ghost use Rattle.provenance.specs.Provenance.{records, provenance, recordable, Room};
 
 use limits::{Refusal, Resource};
 use store::Store;
 
-// The records that the table has rows for.
-pub const RECORDS: usize = 1024;
-
 // Whether the table has room for what one call records.
 pub fn is_recordable(context: Option<u32>, standing: usize) -> bool
     ensures { result ≡ recordable context standing }
 {
-    context.is_none() || standing <= 1008
+    context.is_none() || standing <= sizes::RECORDS_BEFORE_CALL
 }
 
 // The two cells of a record.
 fn put_record(table: &mut [u32], number: usize, argument: u32, context: u32)
-    requires { number ≤ 1024 }
-    ensures { table.new ≡ sets table.old (2 * number) (argument ∷ context ∷ []) }
+    requires { number ≤ size.records }
+    ensures { table.new ≡ sets table.old (size.record_row * number) (argument ∷ context ∷ []) }
 {
-    cells::put_cell(table, 2 * number, argument);
-    cells::put_cell(table, 2 * number + 1, context);
+    let row = sizes::RECORD_ROW * number;
+    cells::put_cell(table, row, argument);
+    cells::put_cell(table, row + 1, context);
 }
 
 // An argument is produced under the context in force; the call has tested that there is room.
 #[tactic(auto, unfolding(crate::specs::Provenance::provenance))]
 pub fn provenance(store: &mut Store, table: &mut [u32], argument: u64) -> Result<(), Refusal>
-    requires { (store.old.counts.positions ≤ 256) × Room 1 store.old.context store.old.counts.provenance }
+    requires { (store.old.counts.positions ≤ size.positions) × Room 1 store.old.context store.old.counts.provenance }
     ensures { replied result (records store.new table.new) ≡ provenance argument (records store.old table.old) }
 {
     if store.counts.positions as u64 <= argument {

@@ -33,18 +33,19 @@ use Rattle.lattice.specs.declared.Abstract.{Abstract}
 use Rattle.lattice.specs.Answers.{answered_value}
 use Rattle.rows.specs.Row.{case_cell, low_cell, high_cell, interval_of, entries_of}
 use Rattle.rows.proofs.RowLaws.{numeric_none}
-use Rattle.refinements.specs.Refinement.{Refinement, row, refinement_at, refinements_of, put_refinement, integer?, narrow, restrict, place, position, notes, note}
+use Rattle.sizes.specs.Sizes.{refinement_row}
+use Rattle.refinements.specs.Refinement.{Refinement, refinement_at, refinements_of, put_refinement, integer?, narrow, restrict, place, position, notes, note}
 use Rattle.refinements.specs.Refinement as refinements
 
 -- ---- a row
 
-module _ (cells : List ℕ) (k at : ℕ) (start : at ≡ min (row * k) (length cells)) where
-  reached : (j : ℕ) → get_or cells (at + j) 0 ≡ get_or cells (row * k + j) 0
-  reached j = ap (λ (n : ℕ). get_or cells (n + j) 0) start ∙ get_or_min 0 cells (row * k) j
+module _ (cells : List ℕ) (k at : ℕ) (start : at ≡ min (refinement_row * k) (length cells)) where
+  reached : (j : ℕ) → get_or cells (at + j) 0 ≡ get_or cells (refinement_row * k + j) 0
+  reached j = ap (λ (n : ℕ). get_or cells (n + j) 0) start ∙ get_or_min 0 cells (refinement_row * k) j
 
   pub expression_read : {n : ℕ} → n ≡ get_or cells at 0 → n ≡ (refinement_at cells k).expression
   unfolding refinement_at
-  expression_read e = e ∙ ap (λ (n : ℕ). get_or cells n 0) (sym (add-zero at)) ∙ reached 0 ∙ ap (λ (n : ℕ). get_or cells n 0) (add-zero (row * k))
+  expression_read e = e ∙ ap (λ (n : ℕ). get_or cells n 0) (sym (add-zero at)) ∙ reached 0 ∙ ap (λ (n : ℕ). get_or cells n 0) (add-zero (refinement_row * k))
 
   pub restriction_read : {a b c : ℕ} {i : Interval} → a ≡ get_or cells (at + 1) 0 → b ≡ get_or cells (at + 2) 0 → c ≡ get_or cells (at + 3) 0 → i ≡ interval_of a (of_cell b) (of_cell c) →
       i ≡ (refinement_at cells k).restriction
@@ -57,7 +58,7 @@ module _ (cells : List ℕ) (k at : ℕ) (start : at ≡ min (row * k) (length c
   refinement_put id i ea eb ec ed p₁ p₂ p₃ p =
       p ∙ rw (p₃, p₂, p₁, ea, eb, ec, ed)
       (stores (id % 2 ^ 32) (case_cell i) (low_cell i) (high_cell i) ∙ ap (λ (n : ℕ). sets cells n (id % 2 ^ 32 ∷ case_cell i ∷ low_cell i ∷ high_cell i ∷ [])) start
-      ∙ sets_min (id % 2 ^ 32 ∷ case_cell i ∷ low_cell i ∷ high_cell i ∷ []) cells (row * k))
+      ∙ sets_min (id % 2 ^ 32 ∷ case_cell i ∷ low_cell i ∷ high_cell i ∷ []) cells (refinement_row * k))
     where
       stores : (a b c d : ℕ) → set (set (set (set cells at a) (at + 1) b) (at + 2) c) (at + 3) d ≡ sets cells at (a ∷ b ∷ c ∷ d ∷ [])
       stores a b c d = simp towards_suc
@@ -129,11 +130,11 @@ module _ (n id : ℕ) (i : Interval) (m : Meter) (table : List ℕ) {t : Meter} 
     note_old l p r d = note_at (rw (lt-ltb k n l, d, r, p))
 
   module _ (h : going n t ≡ position 0 (refinements_of table n) id m) where
-    pub note_new : {table' : List ℕ} → n < length table / row → table' ≡ put_refinement table n id i → going (n + 1) (notes t table') ≡ note n id i (notes m table)
-    note_new l d = note_at h (rw (le-ltb n n (omega arith), lt-ltb n (length table / row) l, d))
+    pub note_new : {table' : List ℕ} → n < length table / refinement_row → table' ≡ put_refinement table n id i → going (n + 1) (notes t table') ≡ note n id i (notes m table)
+    note_new l d = note_at h (rw (le-ltb n n (omega arith), lt-ltb n (length table / refinement_row) l, d))
 
-    pub note_full : length table / row ≤ n → going n (notes t table) ≡ note n id i (notes m table)
-    note_full l = note_at h (rw (le-ltb n n (omega arith), le-ltb n (length table / row) l))
+    pub note_full : length table / refinement_row ≤ n → going n (notes t table) ≡ note n id i (notes m table)
+    note_full l = note_at h (rw (le-ltb n n (omega arith), le-ltb n (length table / refinement_row) l))
 
 -- ---- a value is narrowed by the first
 

@@ -32,51 +32,52 @@ use Rattle.rows.specs.WellFormed.{Proper}
 use Rattle.rows.proofs.RowLaws.{size_is, interval_proper, interval_back}
 use Rattle.rows.proofs.Formed.{proper_meet}
 use Rattle.rows.proofs.Good.{Good, refine_good}
-use Rattle.refinements.specs.Refinement.{Refinement, row, refinement_at, refinements_of, put_refinement, integer?, narrow, restrict, position, Notes, notes, noted, note}
+use Rattle.sizes.specs.Sizes.{refinement_row}
+use Rattle.refinements.specs.Refinement.{Refinement, refinement_at, refinements_of, put_refinement, integer?, narrow, restrict, position, Notes, notes, noted, note}
 
 -- ---- rows
 
 pub length_refinement : (cells : List ℕ) (k id : ℕ) (i : Interval) → length (put_refinement cells k id i) ≡ length cells
 unfolding put_refinement
-length_refinement cells k id i = length-sets cells (row * k) (id % 2 ^ 32 ∷ case_cell i ∷ low_cell i ∷ high_cell i ∷ [])
+length_refinement cells k id i = length-sets cells (refinement_row * k) (id % 2 ^ 32 ∷ case_cell i ∷ low_cell i ∷ high_cell i ∷ [])
 
 module _ (cells : List ℕ) (k id : ℕ) (i : Interval) where
-  put_cell : row * k + row ≤ length cells → (j : ℕ) → j < 4 → get_or (put_refinement cells k id i) (row * k + j) 0 ≡ get_or (id % 2 ^ 32 ∷ case_cell i ∷ low_cell i ∷ high_cell i ∷ []) j 0
+  put_cell : refinement_row * k + refinement_row ≤ length cells → (j : ℕ) → j < 4 → get_or (put_refinement cells k id i) (refinement_row * k + j) 0 ≡ get_or (id % 2 ^ 32 ∷ case_cell i ∷ low_cell i ∷ high_cell i ∷ []) j 0
   unfolding put_refinement
-  put_cell room j h = sets_in 0 (id % 2 ^ 32 ∷ case_cell i ∷ low_cell i ∷ high_cell i ∷ []) cells (row * k) j h room
+  put_cell room j h = sets_in 0 (id % 2 ^ 32 ∷ case_cell i ∷ low_cell i ∷ high_cell i ∷ []) cells (refinement_row * k) j h room
 
   -- it reads back
-  pub refinement_back : row * k + row ≤ length cells → id < 2 ^ 32 → Proper i → refinement_at (put_refinement cells k id i) k ≡ record { expression = id; restriction = i }
+  pub refinement_back : refinement_row * k + refinement_row ≤ length cells → id < 2 ^ 32 → Proper i → refinement_at (put_refinement cells k id i) k ≡ record { expression = id; restriction = i }
   unfolding refinement_at
   refinement_back room small p =
-      let e : get_or (put_refinement cells k id i) (row * k) 0 ≡ id =
-      subst (λ (n : ℕ). get_or (put_refinement cells k id i) n 0 ≡ id) (add-zero (row * k)) (put_cell room 0 (omega arith) ∙ omega arith) in
+      let e : get_or (put_refinement cells k id i) (refinement_row * k) 0 ≡ id =
+      subst (λ (n : ℕ). get_or (put_refinement cells k id i) n 0 ≡ id) (add-zero (refinement_row * k)) (put_cell room 0 (omega arith) ∙ omega arith) in
       rw (e, put_cell room 1 (omega arith), put_cell room 2 (omega arith), put_cell room 3 (omega arith), interval_back i p)
 
-  cell_kept : (j m : ℕ) → (j ≡ k → ⊥) → m < 4 → get_or (put_refinement cells k id i) (row * j + m) 0 ≡ get_or cells (row * j + m) 0
+  cell_kept : (j m : ℕ) → (j ≡ k → ⊥) → m < 4 → get_or (put_refinement cells k id i) (refinement_row * j + m) 0 ≡ get_or cells (refinement_row * j + m) 0
   unfolding put_refinement
   cell_kept j m other h = go (compared j k)
     where
       new : List ℕ
       new = id % 2 ^ 32 ∷ case_cell i ∷ low_cell i ∷ high_cell i ∷ []
 
-      go : Compared j k → get_or (sets cells (row * k) new) (row * j + m) 0 ≡ get_or cells (row * j + m) 0
-      go (less b) = sets_before 0 new cells (row * k) (row * j + m) (omega arith)
-      go (more b) = sets_after 0 new cells (row * k) (row * j + m) (omega arith)
+      go : Compared j k → get_or (sets cells (refinement_row * k) new) (refinement_row * j + m) 0 ≡ get_or cells (refinement_row * j + m) 0
+      go (less b) = sets_before 0 new cells (refinement_row * k) (refinement_row * j + m) (omega arith)
+      go (more b) = sets_after 0 new cells (refinement_row * k) (refinement_row * j + m) (omega arith)
       go (same b) = absurd (other b)
 
   -- the others stay, whatever the table holds
   pub refinement_kept : (j : ℕ) → (j ≡ k → ⊥) → refinement_at (put_refinement cells k id i) j ≡ refinement_at cells j
   unfolding refinement_at
   refinement_kept j other =
-      let e : get_or (put_refinement cells k id i) (row * j) 0 ≡ get_or cells (row * j) 0 =
-      subst (λ (n : ℕ). get_or (put_refinement cells k id i) n 0 ≡ get_or cells n 0) (add-zero (row * j)) (cell_kept j 0 other (omega arith)) in
+      let e : get_or (put_refinement cells k id i) (refinement_row * j) 0 ≡ get_or cells (refinement_row * j) 0 =
+      subst (λ (n : ℕ). get_or (put_refinement cells k id i) n 0 ≡ get_or cells n 0) (add-zero (refinement_row * j)) (cell_kept j 0 other (omega arith)) in
       rw (e, cell_kept j 1 other (omega arith), cell_kept j 2 other (omega arith), cell_kept j 3 other (omega arith))
 
 -- any contents read as an interval of numbers of 32 bits
 pub refinement_proper : (cells : List ℕ) (k : ℕ) → All (λ n. n < 2 ^ 32) cells → Proper (refinement_at cells k).restriction
 unfolding refinement_at
-refinement_proper cells k h = interval_proper (get_or cells (row * k + 1) 0) (of_cell (get_or cells (row * k + 2) 0)) (of_cell (get_or cells (row * k + 3) 0)) (of_number _ (small (row * k + 2))) (of_number _ (small (row * k + 3)))
+refinement_proper cells k h = interval_proper (get_or cells (refinement_row * k + 1) 0) (of_cell (get_or cells (refinement_row * k + 2) 0)) (of_cell (get_or cells (refinement_row * k + 3) 0)) (of_number _ (small (refinement_row * k + 2))) (of_number _ (small (refinement_row * k + 3)))
   where
     small : (m : ℕ) → get_or cells m 0 < 2 ^ 32
     small m = all_get_d (λ n. n < 2 ^ 32) cells m 0 h (omega arith)
@@ -84,7 +85,7 @@ refinement_proper cells k h = interval_proper (get_or cells (row * k + 1) 0) (of
 -- cells of 32 bits stay such
 pub refinement_small : (cells : List ℕ) (k id : ℕ) (i : Interval) → All (λ n. n < 2 ^ 32) cells → Proper i → All (λ n. n < 2 ^ 32) (put_refinement cells k id i)
 unfolding put_refinement
-refinement_small cells k id i h p = all_sets (λ n. n < 2 ^ 32) cells (row * k) (id % 2 ^ 32 ∷ case_cell i ∷ low_cell i ∷ high_cell i ∷ []) h (new i p)
+refinement_small cells k id i h p = all_sets (λ n. n < 2 ^ 32) cells (refinement_row * k) (id % 2 ^ 32 ∷ case_cell i ∷ low_cell i ∷ high_cell i ∷ []) h (new i p)
   where
     new : (i : Interval) → Proper i → All (λ n. n < 2 ^ 32) (id % 2 ^ 32 ∷ case_cell i ∷ low_cell i ∷ high_cell i ∷ [])
     new Bottom p = (omega arith, (omega arith, (omega arith, (omega arith, tt))))
@@ -114,7 +115,7 @@ position_steady k (r ∷ rs) id = steady_then (steady_unit (work 1)) (steady_tes
 
 noted_steady : (n id : ℕ) (i : Interval) (k : ℕ) → SteadyOn (λ s. s.table) (noted n id i k)
 noted_steady n id i k =
-    record { same = λ s t e. rw e (go (ltb k n) (ltb k (length t.table / row)) (notes s.meter _) (notes t.meter _) (notes s.meter _) (notes t.meter _) (notes s.meter t.table) t refl refl refl) }
+    record { same = λ s t e. rw e (go (ltb k n) (ltb k (length t.table / refinement_row)) (notes s.meter _) (notes t.meter _) (notes s.meter _) (notes t.meter _) (notes s.meter t.table) t refl refl refl) }
   where
     go : (b d : Bool) (x x' y y' z z' : Notes) → x.table ≡ x'.table → y.table ≡ y'.table → z.table ≡ z'.table →
         Alike {E = Stop} (λ s. s.table) (cond b (going n x) (cond d (going (n + 1) y) (going n z))) (cond b (going n x') (cond d (going (n + 1) y') (going n z')))
@@ -150,7 +151,7 @@ module _ (n id : ℕ) (i : Interval) (proper : Proper i) where
   noted_ends : (k : ℕ) (s : Notes) → All (λ c. c < 2 ^ 32) s.table → Ends {E = Stop} (λ _ t. (t.meter.entries ≡ s.meter.entries) × All (λ c. c < 2 ^ 32) t.table) (λ _ _. ⊥) (noted n id i k s)
   noted_ends k s h =
       ends_test (ltb k n) (λ _. completes (refl, refinement_small s.table k id _ h (proper_meet _ i (refinement_proper s.table k h) proper)))
-      (λ _. ends_test (ltb k (length s.table / row)) (λ _. completes (refl, refinement_small s.table k id i h proper)) (λ _. completes (refl, h)))
+      (λ _. ends_test (ltb k (length s.table / refinement_row)) (λ _. completes (refl, refinement_small s.table k id i h proper)) (λ _. completes (refl, h)))
 
   pub note_ends : (s : Notes) → All (λ c. c < 2 ^ 32) s.table →
       Ends (λ _ t. (t.meter.entries ≡ s.meter.entries) × All (λ c. c < 2 ^ 32) t.table) (λ _ t. (t.meter.entries ≡ s.meter.entries) × All (λ c. c < 2 ^ 32) t.table) (note n id i s)

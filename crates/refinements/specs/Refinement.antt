@@ -1,6 +1,7 @@
 -- What guards have found of expressions (`refinements` of transfer.rs): an expression's id and an interval in which its value lies, a row of a
 -- lent table for each. Cells beyond the table read as 0 and are not written.
 use Rattle.std.specs.Prelude.{ℕ, ◌+◌, ◌*◌, ◌/◌, ◌%◌, ◌^◌, Bool, true, false, cond, Option, None, Some, List, [], ◌∷◌, ltb, eqb, length, get_or}
+use Rattle.sizes.specs.Sizes as size
 use Rattle.std.proofs.lemmas.List.Edits.{sets}
 use Rattle.integers.specs.Lists.{from}
 use Rattle.limits.specs.declared.Stop.{Stop}
@@ -21,14 +22,10 @@ pub record Refinement : Type 0 where
 
 -- ---- a table of rows
 
--- the constant ROW: the id, the interval's case and its two ends
-abbrev pub row : ℕ
-row = 4
-
 unfoldable pub refinement_at : List ℕ → ℕ → Refinement
 refinement_at cells k = record {
-  expression = get_or cells (row * k) 0;
-  restriction = interval_of (get_or cells (row * k + 1) 0) (of_cell (get_or cells (row * k + 2) 0)) (of_cell (get_or cells (row * k + 3) 0));
+  expression = get_or cells (size.refinement_row * k) 0;
+  restriction = interval_of (get_or cells (size.refinement_row * k + 1) 0) (of_cell (get_or cells (size.refinement_row * k + 2) 0)) (of_cell (get_or cells (size.refinement_row * k + 3) 0));
 }
 
 -- the first n
@@ -37,7 +34,7 @@ refinements_of cells n = from (refinement_at cells) 0 n
 
 -- an id has 32 bits here: those of a rule have
 unfoldable pub put_refinement : List ℕ → ℕ → ℕ → Interval → List ℕ
-put_refinement cells k id i = sets cells (row * k) (id % 2 ^ 32 ∷ case_cell i ∷ low_cell i ∷ high_cell i ∷ [])
+put_refinement cells k id i = sets cells (size.refinement_row * k) (id % 2 ^ 32 ∷ case_cell i ∷ low_cell i ∷ high_cell i ∷ [])
 
 -- ---- the end of `expression`: a value that was worked out is narrowed by what is known of its expression
 
@@ -75,7 +72,7 @@ notes m t = record { meter = m; table = t }
 abbrev pub noted : ℕ → ℕ → Interval → ℕ → Metered Stop Notes ℕ
 noted n id i k s =
     cond (ltb k n) (going n (notes s.meter (put_refinement s.table k id (meet_of (refinement_at s.table k).restriction i))))
-    (cond (ltb k (length s.table / row)) (going (n + 1) (notes s.meter (put_refinement s.table k id i))) (going n s))
+    (cond (ltb k (length s.table / size.refinement_row)) (going (n + 1) (notes s.meter (put_refinement s.table k id i))) (going n s))
 
 -- of n refinements. A table without room stays as it is: 64 rows have room for two of each guard
 unfoldable pub note : ℕ → ℕ → Interval → Metered Stop Notes ℕ

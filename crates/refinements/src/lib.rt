@@ -3,29 +3,27 @@
 #![tactic(auto)]
 
 ghost use Rattle.std.specs.Prelude.{ℕ, List, ◌≡◌, ◌<◌, min, ◌*◌, IfOk, IfSome};
+ghost use Rattle.sizes.specs.Sizes as size;
 ghost use Rattle.limits.specs.Metered.{answered};
 ghost use Rattle.lists.specs.Ids.{seen};
 ghost use Rattle.lattice.specs.Value.{value_of};
 ghost use Rattle.lattice.specs.Lattice.{numeric};
 ghost use Rattle.lattice.specs.Answers.{answered_value};
-ghost use Rattle.refinements.specs.Refinement.{row, refinement_at, refinements_of, put_refinement, integer?, narrow, restrict, place, position, notes, note};
+ghost use Rattle.refinements.specs.Refinement.{refinement_at, refinements_of, put_refinement, integer?, narrow, restrict, place, position, notes, note};
 
 use cells::{cell_at, of_cell, put_cell};
 use interval::{Integrality, Interval};
 use lattice::Abstract;
 use limits::{Meter, Stop};
 
-// The cells of a row: the expression's id, the interval's case and its two ends.
-pub const ROW: usize = 4;
-
 // Where a row begins. All rows beyond the table begin at its end.
 fn start(len: usize, k: usize) -> usize
-    ensures { result ≡ min (row * k) len }
+    ensures { result ≡ min (size.refinement_row * k) len }
 {
-    if len / ROW < k {
+    if len / sizes::REFINEMENT_ROW < k {
         return len;
     }
-    ROW * k
+    sizes::REFINEMENT_ROW * k
 }
 
 fn expression_at(cells: &[u32], k: usize) -> u64
@@ -156,7 +154,7 @@ pub fn note(
         put_refinement(refinements, k, id, old.meet(restriction));
         return Ok(count);
     }
-    if count < refinements.len() / ROW {
+    if count < refinements.len() / sizes::REFINEMENT_ROW {
         put_refinement(refinements, count, id, restriction);
         return Ok(count + 1);
     }

@@ -2,33 +2,33 @@
 
 #[derive(Drop)]
 pub struct Tables {
-    pub names: [u8; 65536],
-    pub constants: [u32; 2048],
-    pub order: [u32; 1024],
-    pub thresholds: [i32; 4096],
-    pub nodes: [u64; nodes::ROW * 1024],
-    pub predicates: [u32; 128],
-    pub seeds: [u32; rounds::ARGUMENTS],
-    pub records: [u32; 2048],
-    pub rules: [u32; rules::ROW * 256],
-    pub arguments: [u32; rounds::ARGUMENTS],
-    pub slots: [u32; results::BOUNDS],
+    pub names: [u8; sizes::NAME_CELLS],
+    pub constants: [u32; sizes::CONSTANT_CELLS],
+    pub order: [u32; sizes::CONSTANTS],
+    pub thresholds: [i32; sizes::THRESHOLDS],
+    pub nodes: [u64; sizes::NODE_CELLS],
+    pub predicates: [u32; sizes::PREDICATE_CELLS],
+    pub seeds: [u32; sizes::ARGUMENT_CELLS],
+    pub records: [u32; sizes::RECORD_CELLS],
+    pub rules: [u32; sizes::RULE_CELLS],
+    pub arguments: [u32; sizes::ARGUMENT_CELLS],
+    pub slots: [u32; sizes::BOUNDS_CELLS],
 }
 
 impl Tables {
     pub fn new() -> Tables {
         Tables {
-            names: [0; 65536],
-            constants: [0; 2048],
-            order: [0; 1024],
-            thresholds: [0; 4096],
-            nodes: [0; nodes::ROW * 1024],
-            predicates: [0; 128],
-            seeds: [0; rounds::ARGUMENTS],
-            records: [0; 2048],
-            rules: [0; rules::ROW * 256],
-            arguments: [0; rounds::ARGUMENTS],
-            slots: [0; results::BOUNDS],
+            names: [0; sizes::NAME_CELLS],
+            constants: [0; sizes::CONSTANT_CELLS],
+            order: [0; sizes::CONSTANTS],
+            thresholds: [0; sizes::THRESHOLDS],
+            nodes: [0; sizes::NODE_CELLS],
+            predicates: [0; sizes::PREDICATE_CELLS],
+            seeds: [0; sizes::ARGUMENT_CELLS],
+            records: [0; sizes::RECORD_CELLS],
+            rules: [0; sizes::RULE_CELLS],
+            arguments: [0; sizes::ARGUMENT_CELLS],
+            slots: [0; sizes::BOUNDS_CELLS],
         }
     }
 }

@@ -1,5 +1,6 @@
 -- The end of `run` in engine.rs: the last round, the bounds of the rules' slots before and after guards, and the closing charge.
 use Rattle.std.specs.Prelude.{ℕ, zero, suc, ◌+◌, ◌*◌, Bool, true, false, cond, ◌&&◌, List, ltb}
+use Rattle.sizes.specs.Sizes as size
 use Rattle.std.proofs.lemmas.List.Edits.{sets}
 use Rattle.limits.specs.declared.Stop.{Stop}
 use Rattle.limits.specs.declared.Budget.{Budget}
@@ -15,15 +16,15 @@ use Rattle.rounds.specs.Locals.{with_locals}
 use Rattle.rounds.specs.declared.Course.{Course}
 use Rattle.rounds.specs.Round.{Given, Standing, standing, charging, each_rule, course, candidates, moved}
 
--- ---- the bounds of a rule's slots: four cells for each bound, two bounds for each of 16 slots, of each of 256 rules
+-- ---- the bounds of the rules' slots: two for each slot of each rule
 
 -- where a slot's bound stands: before guards, or after them
 abbrev pub place : ℕ → ℕ → Bool → ℕ
-place id slot after = 128 * id + 8 * slot + cond after 4 0
+place id slot after = size.bounds_row * id + size.slot_row * slot + cond after size.bound_row 0
 
 -- a rule or a slot that the table has no place for is not written
 unfoldable pub put_bound : List ℕ → ℕ → ℕ → Bool → Bound → List ℕ
-put_bound cells id slot after b = cond (ltb id 256 && ltb slot 16) (sets cells (place id slot after) (bound_cells b)) cells
+put_bound cells id slot after b = cond (ltb id size.rules && ltb slot size.slots) (sets cells (place id slot after) (bound_cells b)) cells
 
 abbrev pub keeping : ℕ → ℕ → Bool → Bound → Metered Stop Slots (Unit {0})
 keeping id slot after b s = going tt (slots s.meter (put_bound s.rows id slot after b))

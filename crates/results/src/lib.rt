@@ -14,23 +14,16 @@ use interval::Bound;
 use limits::{Meter, Resource, Stop};
 use rounds::{Course, Given, Locals, Task};
 
-// The rules and the slots of a rule that a table of bounds has places for, the cells of a rule, and all of them.
-pub const RULES: usize = 256;
-
-pub const SLOTS: usize = 16;
-
-pub const RULE: usize = 128;
-
-pub const BOUNDS: usize = 32768;
-
 // A bound of a rule's slot, before guards or after them.
 fn put_bound(cells: &mut [u32], id: usize, slot: usize, after: bool, bound: Bound)
     ensures { cells.new ≡ put_bound cells.old id slot after bound }
 {
-    if RULES <= id || SLOTS <= slot {
+    if sizes::RULES <= id || sizes::SLOTS <= slot {
         return;
     }
-    let at = RULE * id + 8 * slot + if after { 4 } else { 0 };
+    let at = sizes::BOUNDS_ROW * id
+        + sizes::SLOT_ROW * slot
+        + if after { sizes::BOUND_ROW } else { 0 };
     cells::put_cell(cells, at, rows::integrality_cell(bound.integrality));
     cells::put_cell(cells, at + 1, rows::case_cell(bound.interval));
     cells::put_cell(cells, at + 2, rows::low_cell(bound.interval));
@@ -108,7 +101,7 @@ pub fn close(
 fn last_round(given: &Given, current: &mut [u32], course: &mut Course) -> Result<(), Stop>
     ensures { answered result (standing course.new.budget course.new.context current.new) ≡ last_round (given_in given.now) (standing course.old.budget course.old.context current.old) }
 {
-    let mut result = [0u32; rounds::ARGUMENTS];
+    let mut result = [0u32; sizes::ARGUMENT_CELLS];
     rounds::image(given, current, &mut result, course)?;
     rounds::without_rows(current, given.positions, &mut course.budget);
     rounds::move_rows(&result, current, given.positions);

@@ -15,7 +15,8 @@ use Rattle.limits.proofs.Monad.{Holds, Ensures, any_value}
 use Rattle.limits.proofs.Ends.{Ends, completes, stops, ends_pure, ends_then, ends_through, ends_as, on_bind, on_then}
 use Rattle.limits.proofs.Live.{LiveIn, Lives, live_work, live_ends}
 use Rattle.lattice.specs.Value.{Value}
-use Rattle.rows.specs.Row.{row, entries_of, value_at, put}
+use Rattle.sizes.specs.Sizes.{value_row}
+use Rattle.rows.specs.Row.{entries_of, value_at, put}
 use Rattle.rows.specs.WellFormed.{WellFormed}
 use Rattle.rules.specs.Read.{context_at, slots_at}
 use Rattle.slots.specs.Slots.{Slots, slots, fewer, total, settled, replace, dropping, step, each}
@@ -66,7 +67,7 @@ abbrev pub rows_of : ℕ → List ℕ → ℕ
 rows_of n rows = total rows n
 
 module _ {n : ℕ} (slot : ℕ) (inside : slot < n) (f : Value → Metered Stop Meter Value) (lives : (v : Value) → Lives 0 entries_of (f v)) (F G : List ℕ → Type 0)
-    (room : (rows : List ℕ) → F rows → row * n ≤ length rows) (gives : (rows : List ℕ) → F rows → Ensures (λ v. WellFormed v × G (put rows slot v)) (f (value_at rows slot))) where
+    (room : (rows : List ℕ) → F rows → value_row * n ≤ length rows) (gives : (rows : List ℕ) → F rows → Ensures (λ v. WellFormed v × G (put rows slot v)) (f (value_at rows slot))) where
   settles : (e : ℕ) (s : Slots) → s.meter.entries ≡ e + total s.rows n → F s.rows → (x : Run Stop Meter Value) → LiveIn s.meter.entries entries_of x → Holds (λ v. WellFormed v × G (put s.rows slot v)) x →
       Ends (λ _ t. (t.meter.entries ≡ e + total t.rows n) × G t.rows) (λ _ t. t.meter.entries ≡ e + total t.rows n) (settled slot (value_at s.rows slot) s.rows x)
   settles e s h p (going v m) l w =

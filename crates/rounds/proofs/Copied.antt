@@ -10,7 +10,8 @@ use Rattle.limits.proofs.Ends.{Ends, completes, ends_pure, ends_bind, ends_then,
 use Rattle.lattice.specs.Value.{Value}
 use Rattle.lattice.specs.Lattice.{copied}
 use Rattle.lattice.proofs.Copies.{copied_is}
-use Rattle.rows.specs.Row.{row, value_at, put}
+use Rattle.sizes.specs.Sizes.{value_row}
+use Rattle.rows.specs.Row.{value_at, put}
 use Rattle.rows.specs.WellFormed.{WellFormed}
 use Rattle.rows.proofs.RowLaws.{length_put, put_back, put_other}
 use Rattle.slots.specs.Slots.{Slots, paying, holding_rows, putting, copies}
@@ -20,13 +21,13 @@ abbrev pub Same : List ℕ → ℕ → List ℕ → Type 0
 Same domains k rows = (j : ℕ) → j < k → value_at rows j ≡ value_at domains j
 
 module _ (domains : List ℕ) (bound : ℕ) (formed : (j : ℕ) → j < bound → WellFormed (value_at domains j)) where
-  one : (k : ℕ) → k < bound → (rows : List ℕ) → row * k + row ≤ length rows → Same domains k rows → Same domains (k + 1) (put rows k (value_at domains k))
+  one : (k : ℕ) → k < bound → (rows : List ℕ) → value_row * k + value_row ≤ length rows → Same domains k rows → Same domains (k + 1) (put rows k (value_at domains k))
   one k b rows r h j l = elim (dec_lt j k) [
     | yes m ↦ put_other rows k (value_at domains k) j (λ e. omega arith) ∙ h j m
     | no m ↦ let e : j ≡ k = omega arith in rw e (put_back rows k (value_at domains k) r (formed k b))
   ]
 
-  pub copies_same : (k n : ℕ) → k + n ≤ bound → (s : Slots) → row * (k + n) ≤ length s.rows → Same domains k s.rows → Ends (λ _ t. Same domains (k + n) t.rows) (λ _ _. Unit {0}) (copies domains k n s)
+  pub copies_same : (k n : ℕ) → k + n ≤ bound → (s : Slots) → value_row * (k + n) ≤ length s.rows → Same domains k s.rows → Ends (λ _ t. Same domains (k + n) t.rows) (λ _ _. Unit {0}) (copies domains k n s)
   unfolding copies
   copies_same k zero b s r h = ends_pure tt s (λ j l. h j (omega arith))
   copies_same k (suc n) b s r h =
@@ -42,7 +43,7 @@ module _ (domains : List ℕ) (bound : ℕ) (formed : (j : ℕ) → j < bound �
       (λ _ _ _. tt))
       (λ _ _ _. tt)
     where
-      next : (k n : ℕ) → k + suc n ≤ bound → (s : Slots) → row * (k + suc n) ≤ length s.rows → Same domains k s.rows → (v : Value) (t : Slots) → (v ≡ value_at domains k) × (t.rows ≡ s.rows) →
+      next : (k n : ℕ) → k + suc n ≤ bound → (s : Slots) → value_row * (k + suc n) ≤ length s.rows → Same domains k s.rows → (v : Value) (t : Slots) → (v ≡ value_at domains k) × (t.rows ≡ s.rows) →
           Same domains (k + 1) (put t.rows k v) × (length (put t.rows k v) ≡ length s.rows)
       next k n b s r h v t e =
           rw (e.0, e.1) (one k (omega arith) s.rows (omega arith) h, length_put s.rows k (value_at domains k))

@@ -9,7 +9,8 @@ use Rattle.limits.proofs.Live.{live_as, live_ends}
 use Rattle.lattice.specs.Value.{Value}
 use Rattle.lattice.specs.Lattice.{join}
 use Rattle.lattice.proofs.LiveLaws.{join_lives}
-use Rattle.rows.specs.Row.{row, value_at, put}
+use Rattle.sizes.specs.Sizes.{value_row}
+use Rattle.rows.specs.Row.{value_at, put}
 use Rattle.rows.specs.WellFormed.{WellFormed}
 use Rattle.rows.proofs.RowLaws.{size_is}
 use Rattle.rules.specs.declared.Head.{Head}
@@ -20,7 +21,7 @@ use Rattle.transfer.proofs.Live.{head_lives}
 use Rattle.rounds.specs.Round.{join_owned, join_head}
 use Rattle.rounds.proofs.Brings.{Brings, brings_replace, owned_brings, rows_of}
 
-module _ (n : ℕ) (F G : List ℕ → Type 0) (W : Value → Type 0) (room : (rows : List ℕ) → F rows → row * n ≤ length rows) where
+module _ (n : ℕ) (F G : List ℕ → Type 0) (W : Value → Type 0) (room : (rows : List ℕ) → F rows → value_row * n ≤ length rows) where
   -- a value that is joined into a row
   pub brings_join : (width a : ℕ) → a < n → (v : Value) → ((rows : List ℕ) → F rows → Ensures (λ w. WellFormed w × G (put rows a w)) (join width (value_at rows a) v)) → Brings (rows_of n) F G (replace a (λ old. join width old v))
   brings_join width a inside v gives = brings_replace a inside (λ old. join width old v) (λ old. live_as size_is (join_lives width old v)) F G room gives

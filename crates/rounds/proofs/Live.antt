@@ -1,4 +1,5 @@
 -- Live entries of a round: beside those before, the lists of its result where it completes, and none where it is stopped.
+use Rattle.sizes.specs.Sizes as size
 use Prim.Native.Nat.{ℕ, zero, suc, ◌+◌, ◌*◌, ◌≤◌, ◌<◌, ◌^◌}
 use native.Mathlib.Omega.{arith}
 use native.Mathlib.Nat.{min-le_right}
@@ -17,7 +18,8 @@ use Rattle.limits.specs.Budget.{released, round}
 use Rattle.limits.proofs.Monad.{any_value, weaken}
 use Rattle.limits.proofs.Ends.{Ends, completes, stops, ends_through, ends_as, on_then}
 use Rattle.limits.proofs.Live.{live_work, live_ends}
-use Rattle.rows.specs.Row.{row, padded, decode, value_at}
+use Rattle.sizes.specs.Sizes.{value_row}
+use Rattle.rows.specs.Row.{padded, decode, value_at}
 use Rattle.rows.proofs.RowLaws.{value_formed, row_cell, length_put}
 use Rattle.rows.proofs.Good.{Good, join_good}
 use Rattle.rules.specs.declared.Head.{Head}
@@ -58,7 +60,7 @@ small_zero n = all_zero (λ c. c < 2 ^ 32) (omega arith) n
 -- a row of zeros has no list
 no_list : (n i : ℕ) → (value_at (replicate n 0) i).values ≡ none
 unfolding value_at decode
-no_list n i = let e : get_or (padded row (drop (row * i) (replicate n 0))) 4 0 ≡ 0 = row_cell (replicate n 0) (row * i) 4 (omega arith) ∙ all_get_d (λ c. c ≡ 0) (replicate n 0) (row * i + 4) 0 (all_zero (λ c. c ≡ 0) refl n) refl in rw e
+no_list n i = let e : get_or (padded value_row (drop (value_row * i) (replicate n 0))) 4 0 ≡ 0 = row_cell (replicate n 0) (value_row * i) 4 (omega arith) ∙ all_get_d (λ c. c ≡ 0) (replicate n 0) (value_row * i + 4) 0 (all_zero (λ c. c ≡ 0) refl n) refl in rw e
 
 pub blank_formed : (n : ℕ) → Formed (replicate n 0)
 blank_formed n i =
@@ -67,10 +69,10 @@ blank_formed n i =
 
 lent : (n : ℕ) (m : Meter) → n ≤ 16 → Lent n (blank m)
 lent n m h = record {
-  before = rw (length-replicate {A = ℕ} (row * 16) 0) (omega arith);
-  after = rw (length-replicate {A = ℕ} (row * 16) 0) (omega arith);
-  domains = blank_formed (row * 16);
-  produced = blank_formed (row * 16);
+  before = rw (length-replicate {A = ℕ} (value_row * 16) 0) (omega arith);
+  after = rw (length-replicate {A = ℕ} (value_row * 16) 0) (omega arith);
+  domains = blank_formed (value_row * 16);
+  produced = blank_formed (value_row * 16);
   refinements = small_zero 256;
 }
 
@@ -105,7 +107,7 @@ module _ (i : Input) (small : All (λ c. c < 2 ^ 32) i.constants) {n : ℕ} {rul
 
 -- a table of n values
 abbrev pub Room : ℕ → List ℕ → Type 0
-Room n rows = (row * n ≤ length rows) × Formed rows
+Room n rows = (value_row * n ≤ length rows) × Formed rows
 
 module _ (i : Input) (small : All (λ c. c < 2 ^ 32) i.constants) (n : ℕ) where
   -- a head's value joins a row
@@ -130,10 +132,10 @@ module _ (i : Input) (small : All (λ c. c < 2 ^ 32) i.constants) (n : ℕ) wher
 
 -- what copies of the seeds bring about, and the rules then bring to G
 module _ (g : Given) (previous : List ℕ) (F G : List ℕ → Type 0) (e : ℕ)
-    (copy : (s : Slots) → row * g.positions ≤ length s.rows → Formed s.rows → s.meter.entries ≡ e → Ends (λ _ t. (t.meter.entries ≡ e + total t.rows g.positions) × F t.rows) (λ _ t. t.meter.entries ≡ e) (copies g.seeds 0 g.positions s))
+    (copy : (s : Slots) → value_row * g.positions ≤ length s.rows → Formed s.rows → s.meter.entries ≡ e → Ends (λ _ t. (t.meter.entries ≡ e + total t.rows g.positions) × F t.rows) (λ _ t. t.meter.entries ≡ e) (copies g.seeds 0 g.positions s))
     (apply_all : (s : Standing) → Stands (rows_of g.positions) e s → F s.rows →
     Ends (λ _ t. Stands (rows_of g.positions) e t × G t.rows) (λ _ t. Stands (rows_of g.positions) e t) (each_rule g.rules (apply g.input g.rules previous) 0 g.count s)) where
-  produce_brings : (s : Standing) → row * g.positions ≤ length s.rows → Formed s.rows → s.budget.statistics.entries ≡ e →
+  produce_brings : (s : Standing) → value_row * g.positions ≤ length s.rows → Formed s.rows → s.budget.statistics.entries ≡ e →
       Ends (λ _ t. Stands (rows_of g.positions) e t × G t.rows) (λ _ t. t.budget.statistics.entries ≡ e) (produce g previous s)
   unfolding produce
   produce_brings s r f q =
@@ -146,7 +148,7 @@ module _ (g : Given) (previous : List ℕ) (F G : List ℕ → Type 0) (e : ℕ)
       (apply_all (standing (with_meter u.meter s.budget) s.context u.rows) p.0 p.1) (λ _ t z. z) (λ _ t z. omega arith))
       (λ _ u p. p)
 
-  pub image_brings : (s : Standing) → row * g.positions ≤ length s.rows → Formed s.rows → s.budget.statistics.entries ≡ e →
+  pub image_brings : (s : Standing) → value_row * g.positions ≤ length s.rows → Formed s.rows → s.budget.statistics.entries ≡ e →
       Ends (λ _ t. Stands (rows_of g.positions) e t × G t.rows) (λ _ t. t.budget.statistics.entries ≡ e) (image g previous s)
   unfolding image
   image_brings s r f q =
@@ -154,7 +156,7 @@ module _ (g : Given) (previous : List ℕ) (F G : List ℕ → Type 0) (e : ℕ)
       (λ _ b p. produce_brings (standing b s.context s.rows) r f (rw p q)) (λ _ b p. rw p.1 q)
 
 pub image_live : (g : Given) → All (λ c. c < 2 ^ 32) g.input.constants → ((id : ℕ) → id < g.count → Fit g.positions g.input g.rules id) → ((a : ℕ) → a < g.positions → Good (value_at g.seeds a)) → (previous : List ℕ) → Formed previous →
-    (e : ℕ) (s : Standing) → row * g.positions ≤ length s.rows → Formed s.rows → s.budget.statistics.entries ≡ e →
+    (e : ℕ) (s : Standing) → value_row * g.positions ≤ length s.rows → Formed s.rows → s.budget.statistics.entries ≡ e →
     Ends (λ _ t. Stands (rows_of g.positions) e t × Room g.positions t.rows) (λ _ t. t.budget.statistics.entries ≡ e) (image g previous s)
 unfolding total
 image_live g small fits seeds previous formed e =
@@ -170,12 +172,12 @@ image_live g small fits seeds previous formed e =
 
 -- a round in a table of its own
 pub candidates_ends : (g : Given) (previous : List ℕ) (G : List ℕ → Type 0) (e : ℕ) → g.positions ≤ 256 →
-    ((s : Standing) → row * g.positions ≤ length s.rows → Formed s.rows → s.budget.statistics.entries ≡ e →
+    ((s : Standing) → value_row * g.positions ≤ length s.rows → Formed s.rows → s.budget.statistics.entries ≡ e →
     Ends (λ _ t. Stands (rows_of g.positions) e t × G t.rows) (λ _ t. t.budget.statistics.entries ≡ e) (image g previous s)) →
     (c : Course) → c.budget.statistics.entries ≡ e →
     Ends (λ rows d. (d.budget.statistics.entries ≡ e + total rows g.positions) × G rows) (λ _ d. d.budget.statistics.entries ≡ e) (candidates g previous c)
 unfolding candidates
-candidates_ends g previous G e few h c q = go (h (standing c.budget c.context table) (rw (length-replicate {A = ℕ} (row * 256) 0) (omega arith)) (blank_formed (row * 256)) q)
+candidates_ends g previous G e few h c q = go (h (standing c.budget c.context table) (rw (length-replicate {A = ℕ} size.argument_cells 0) (omega arith)) (blank_formed size.argument_cells) q)
   where
     go : {x : Run Stop Standing (Unit {0})} → Ends (λ _ t. Stands (rows_of g.positions) e t × G t.rows) (λ _ t. t.budget.statistics.entries ≡ e) x →
         Ends (λ rows d. (d.budget.statistics.entries ≡ e + total rows g.positions) × G rows) (λ _ d. d.budget.statistics.entries ≡ e) (candidates_of x)

@@ -5,7 +5,8 @@ use native.Mathlib.Decide.{dec_lt}
 use mathlib.Core.Path.{◌≡◌, refl, ◌∙◌}
 use mathlib.Core.List.{List}
 use lib.ListN.{length}
-use Rattle.rows.specs.Row.{row, value_at}
+use Rattle.sizes.specs.Sizes.{value_row}
+use Rattle.rows.specs.Row.{value_at}
 use Rattle.rows.proofs.RowLaws.{length_put, put_back, put_other}
 use Rattle.slots.specs.Slots.{total}
 use Rattle.slots.proofs.Live.{Formed, formed_put, total_same}
@@ -18,7 +19,7 @@ length_moved from to (suc n) = length_put (moved from n to) n (value_at from n) 
 
 module _ (from to : List ℕ) (formed : Formed from) where
   -- the first n rows are those of the other table
-  pub moved_row : (n a : ℕ) → row * n ≤ length to → a < n → value_at (moved from n to) a ≡ value_at from a
+  pub moved_row : (n a : ℕ) → value_row * n ≤ length to → a < n → value_at (moved from n to) a ≡ value_at from a
   unfolding moved
   moved_row zero a r l = absurd (omega arith)
   moved_row (suc n) a r l = elim (dec_lt a n) [
@@ -28,10 +29,10 @@ module _ (from to : List ℕ) (formed : Formed from) where
         rw e (put_back (moved from n to) n (value_at from n) (omega (arith, length_moved from to n)) (formed n).formed)
   ]
 
-  pub moved_formed : (n : ℕ) → row * n ≤ length to → Formed to → Formed (moved from n to)
+  pub moved_formed : (n : ℕ) → value_row * n ≤ length to → Formed to → Formed (moved from n to)
   unfolding moved
   moved_formed zero r f = f
   moved_formed (suc n) r f = formed_put (moved from n to) n (value_at from n) (omega (arith, length_moved from to n)) (formed n) (moved_formed n (omega arith) f)
 
-  pub moved_total : (n : ℕ) → row * n ≤ length to → total (moved from n to) n ≡ total from n
+  pub moved_total : (n : ℕ) → value_row * n ≤ length to → total (moved from n to) n ≡ total from n
   moved_total n r = total_same from (moved from n to) n (λ a l. moved_row n a r l)

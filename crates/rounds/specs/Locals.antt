@@ -1,10 +1,10 @@
 -- A rule's slots in a run (`Local` of transfer.rs, in tables of their own), a unit of work before them; whoever has them made drops them.
 use Rattle.std.specs.Prelude.{ℕ, ◌*◌, List, replicate}
+use Rattle.sizes.specs.Sizes as size
 use Rattle.limits.specs.declared.Stop.{Stop}
 use Rattle.limits.specs.Metered.{Run, going, stopped, Metered, ◌>>=◌, ◌>>◌, finally, zoom}
 use Rattle.limits.specs.declared.Meter.{Meter}
 use Rattle.limits.specs.Meter.{work}
-use Rattle.rows.specs.Row.{row}
 use Rattle.rules.specs.Read.{slots_at}
 use Rattle.slots.specs.Slots.{Slots, total, fewer, paying}
 use Rattle.evaluation.specs.Evaluation.{Input}
@@ -23,9 +23,9 @@ locals d p r n = record { domains = d; produced = p; refinements = r; recorded =
 unfoldable pub fill : Input → List ℕ → ℕ → List ℕ → Metered Stop Frame ℕ
 fill i rules id arguments = zoom (λ s. s.meter) (λ m s. frame m s.domains s.produced s.refinements) (work 1) >> rule i rules id arguments
 
--- rows for 16 slots before guards and after them, and four cells for each of 64 refinements
+-- in blank tables
 abbrev pub blank : Meter → Frame
-blank m = frame m (replicate (row * 16) 0) (replicate (row * 16) 0) (replicate 256 0)
+blank m = frame m (replicate size.slot_cells 0) (replicate size.slot_cells 0) (replicate size.refinement_cells 0)
 
 abbrev pub locals_of : Run Stop Frame ℕ → Run Stop Meter Locals
 locals_of (going n f) = going (locals f.domains f.produced f.refinements n) f.meter

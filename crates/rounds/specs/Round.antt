@@ -1,5 +1,6 @@
 -- `round` and `image` of engine.rs: all rules applied to given values, their heads joined into a copy of the seeds.
 use Rattle.std.specs.Prelude.{ℕ, zero, suc, ◌+◌, ◌*◌, List, replicate}
+use Rattle.sizes.specs.Sizes as size
 use Rattle.limits.specs.declared.Stop.{Stop}
 use Rattle.limits.specs.declared.Budget.{Budget}
 use Rattle.limits.specs.Metered.{Run, going, stopped, Metered, pure, ◌>>=◌, ◌>>◌, on_stop, zoom}
@@ -7,7 +8,7 @@ use Rattle.limits.specs.Budget.{round, released}
 use Rattle.limits.specs.Meter.{meter_of, with_meter}
 use Rattle.lattice.specs.Value.{Value}
 use Rattle.lattice.specs.Lattice.{join}
-use Rattle.rows.specs.Row.{row, value_at, put}
+use Rattle.rows.specs.Row.{value_at, put}
 use Rattle.store.specs.Store.{Context}
 use Rattle.rules.specs.declared.Head.{Head}
 use Rattle.rules.specs.Read.{context_at, heads_at}
@@ -89,7 +90,7 @@ course b c = record { budget = b; context = c }
 
 -- a table for the values of 256 arguments
 abbrev pub blank : List ℕ
-blank = replicate (row * 256) 0
+blank = replicate size.argument_cells 0
 
 abbrev pub candidates_of : Run Stop Standing (Unit {0}) → Run Stop Course (List ℕ)
 candidates_of (going tt s) = going s.rows (course s.budget s.context)

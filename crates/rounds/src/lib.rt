@@ -3,6 +3,7 @@
 #![tactic(auto)]
 
 ghost use Rattle.std.specs.Prelude.{ℕ, ◌≡◌};
+ghost use Rattle.sizes.specs.Sizes as size;
 ghost use Rattle.limits.specs.declared.Stop.{Stop};
 ghost use Rattle.limits.specs.Metered.{Metered, answered};
 ghost use Rattle.limits.specs.Budget.{released};
@@ -20,14 +21,6 @@ use evaluation::Input;
 use lattice::Abstract;
 use limits::{Budget, Meter, Resource, Stop};
 use rules::Head;
-
-// The cells of a table of a rule's slots, and of the refinements that its guards record.
-pub const LOCALS: usize = 384;
-
-pub const REFINEMENTS: usize = 256;
-
-// The cells of a table for the values of all arguments.
-pub const ARGUMENTS: usize = 6144;
 
 // What a run is given: what it reads, the rules that it applies, and the seeds of its arguments. Counts stand beside tables, which have one size.
 #[derive(Clone, Copy)]
@@ -107,9 +100,9 @@ fn with_locals<T: Task>(
 ) -> Result<(), Stop>
     ensures { answered result (slots meter.new table.new) ≡ with_locals (input_in given.now.input) given.now.rules.now id arguments.now (T.does task.now (given_in given.now) id) (slots meter.old table.old) }
 {
-    let mut domains = [0u32; LOCALS];
-    let mut produced = [0u32; LOCALS];
-    let mut refinements = [0u32; REFINEMENTS];
+    let mut domains = [0u32; sizes::SLOT_CELLS];
+    let mut produced = [0u32; sizes::SLOT_CELLS];
+    let mut refinements = [0u32; sizes::REFINEMENT_CELLS];
     let recorded = fill(
         &given.input,
         given.rules,

@@ -26,7 +26,8 @@ use Rattle.lattice.proofs.CodeLaws.{list_copied, entries_stopped}
 use Rattle.lattice.specs.Value.{Reason}
 use Rattle.lattice.specs.declared.Abstract.{Abstract}
 use Rattle.lattice.specs.Value.{Value, value_of, reason_number}
-use Rattle.rows.specs.Row.{row, padded, bound_of, integrality_cell, case_cell, low_cell, high_cell, bound_cells, kept_cell, listed?, list_of, entries_of, encode, reason_of, id_of, ids_of, decode, value_at, put}
+use Rattle.sizes.specs.Sizes.{value_row}
+use Rattle.rows.specs.Row.{padded, bound_of, integrality_cell, case_cell, low_cell, high_cell, bound_cells, kept_cell, listed?, list_of, entries_of, encode, reason_of, id_of, ids_of, decode, value_at, put}
 use Rattle.rows.proofs.RowLaws.{length_padded, get_or_padded, row_cell}
 
 -- ---- the bound
@@ -57,14 +58,14 @@ kept_is v e = e ∙ go v.kept
 -- ---- the ids
 
 pub ids_read : (cells : List ℕ) (at : ℕ) {ids : List ℕ} {j : ℕ} → Filled 0 (λ k. id_of (get_or cells (at + 7 + k) 0)) ids j → length ids ≡ 16 → 16 ≤ j →
-    ids ≡ ids_of (padded row (drop at cells))
+    ids ≡ ids_of (padded value_row (drop at cells))
 ids_read cells at {ids} {j} p n h =
-    let l : length (ids_of (padded row (drop at cells))) ≡ 16 = simp (length-map, length-take, length-drop, length_padded) in
-    filled_all p (ids_of (padded row (drop at cells))) (n ∙ sym l) (omega arith)
+    let l : length (ids_of (padded value_row (drop at cells))) ≡ 16 = simp (length-map, length-take, length-drop, length_padded) in
+    filled_all p (ids_of (padded value_row (drop at cells))) (n ∙ sym l) (omega arith)
     (λ k g.
     let e : at + (7 + k) ≡ at + 7 + k = omega arith in
-    get_or-map id_of (take 16 (drop 7 (padded row (drop at cells)))) k 0
-    ∙ ap id_of (get_or-take 16 (drop 7 (padded row (drop at cells))) k 0 (omega arith) ∙ get_or-drop 7 (padded row (drop at cells)) k 0
+    get_or-map id_of (take 16 (drop 7 (padded value_row (drop at cells)))) k 0
+    ∙ ap id_of (get_or-take 16 (drop 7 (padded value_row (drop at cells))) k 0 (omega arith) ∙ get_or-drop 7 (padded value_row (drop at cells)) k 0
     ∙ row_cell cells at (7 + k) (omega arith) ∙ ap (λ (m : ℕ). get_or cells m 0) e))
 
 module _ (n : ℕ) (s : List ℕ) {r l : List ℕ} {at j : ℕ} (p : Writing r l at (padded n s) j) where
@@ -81,24 +82,24 @@ kept_list : (t : Bool) (n : ℕ) (l : List ℕ) → cond (not t) (some (take n l
 kept_list true n l = refl
 kept_list false n l = refl
 
-module _ (cells : List ℕ) (i at : ℕ) (start : at ≡ min (row * i) (length cells)) where
-  the_row : padded row (drop at cells) ≡ padded row (drop (row * i) cells)
-  the_row = ap (λ (n : ℕ). padded row (drop n cells)) start ∙ ap (padded row) (drop_min cells (row * i))
+module _ (cells : List ℕ) (i at : ℕ) (start : at ≡ min (value_row * i) (length cells)) where
+  the_row : padded value_row (drop at cells) ≡ padded value_row (drop (value_row * i) cells)
+  the_row = ap (λ (n : ℕ). padded value_row (drop n cells)) start ∙ ap (padded value_row) (drop_min cells (value_row * i))
 
-  cell : (k : ℕ) → k < row → get_or cells (at + k) 0 ≡ get_or (padded row (drop at cells)) k 0
+  cell : (k : ℕ) → k < value_row → get_or cells (at + k) 0 ≡ get_or (padded value_row (drop at cells)) k 0
   cell k h = sym (row_cell cells at k h)
 
-  first : get_or cells at 0 ≡ get_or (padded row (drop at cells)) 0 0
+  first : get_or cells at 0 ≡ get_or (padded value_row (drop at cells)) 0 0
   first = rw add-zero at (cell 0 (omega arith))
 
   pub row_read : {b : Bound} {a₄ a₅ a₆ : ℕ} {w : Reason} {ids : List ℕ} →
-      b ≡ bound_of cells at → a₄ ≡ get_or cells (at + 4) 0 → a₅ ≡ get_or cells (at + 5) 0 → a₆ ≡ get_or cells (at + 6) 0 → w ≡ reason_of a₆ → ids ≡ ids_of (padded row (drop at cells)) →
+      b ≡ bound_of cells at → a₄ ≡ get_or cells (at + 4) 0 → a₅ ≡ get_or cells (at + 5) 0 → a₆ ≡ get_or cells (at + 6) 0 → w ≡ reason_of a₆ → ids ≡ ids_of (padded value_row (drop at cells)) →
       value_of (record { bound = b; ids = ids; len = a₅; kept = not (eqb a₄ 0); reason = w }) ≡ value_at cells i
   unfolding value_at decode
   row_read eb e₄ e₅ e₆ ew ei =
       rw (← the_row, eb, ew, ei, first, cell 1 (omega arith), cell 2 (omega arith), cell 3 (omega arith))
       (rw (e₄, cell 4 (omega arith), e₅, cell 5 (omega arith), e₆, cell 6 (omega arith))
-      (rw (kept_list (eqb (get_or (padded row (drop at cells)) 4 0) 0) (get_or (padded row (drop at cells)) 5 0) (ids_of (padded row (drop at cells))))))
+      (rw (kept_list (eqb (get_or (padded value_row (drop at cells)) 4 0) 0) (get_or (padded value_row (drop at cells)) 5 0) (ids_of (padded value_row (drop at cells))))))
 
   -- without a list the ids mean nothing
   pub row_bare : (ids : List ℕ) {b : Bound} {a₄ a₅ a₆ : ℕ} {w : Reason} →
@@ -107,30 +108,30 @@ module _ (cells : List ℕ) (i at : ℕ) (start : at ≡ min (row * i) (length c
   row_bare ids {b} {a₄} {a₅} {w} eb e₄ e₅ e₆ ew bare = same (not (eqb a₄ 0)) bare ∙ row_read eb e₄ e₅ e₆ ew refl
     where
       same : (k : Bool) → k ≡ false →
-          value_of (record { bound = b; ids = ids; len = a₅; kept = k; reason = w }) ≡ value_of (record { bound = b; ids = ids_of (padded row (drop at cells)); len = a₅; kept = k; reason = w })
+          value_of (record { bound = b; ids = ids; len = a₅; kept = k; reason = w }) ≡ value_of (record { bound = b; ids = ids_of (padded value_row (drop at cells)); len = a₅; kept = k; reason = w })
       same k e = rw e refl
 
   -- the stores of the bound, of three cells and of the ids, as one
   stores : (v : Value) →
       sets (set (set (set (sets cells at (bound_cells v.bound)) (at + 4) (kept_cell v.values)) (at + 5) (length (list_of v.values))) (at + 6) (reason_number v.widening))
-      (at + 7) (padded (row - 7) (list_of v.values)) ≡ sets cells at (encode v)
+      (at + 7) (padded (value_row - 7) (list_of v.values)) ≡ sets cells at (encode v)
   unfolding encode
   stores v = simp towards_suc
 
   pub row_put : (v : Abstract) {k w : ℕ} {ids l₁ l₂ l₃ l₄ r : List ℕ} →
       k ≡ kept_cell (value_of v).values → ids ≡ list_of (value_of v).values → w ≡ reason_number v.reason →
       l₁ ≡ sets cells at (bound_cells v.bound) → l₂ ≡ set l₁ (at + 4) k → l₃ ≡ set l₂ (at + 5) (length ids) → l₄ ≡ set l₃ (at + 6) w →
-      r ≡ sets l₄ (at + 7) (padded (row - 7) ids) → r ≡ put cells i (value_of v)
+      r ≡ sets l₄ (at + 7) (padded (value_row - 7) ids) → r ≡ put cells i (value_of v)
   unfolding put
   row_put v ek en ew p₁ p₂ p₃ p₄ p =
       p ∙ rw (p₄, p₃, p₂, p₁, ek, en, ew)
-      (stores (value_of v) ∙ ap (λ (n : ℕ). sets cells n (encode (value_of v))) start ∙ sets_min (encode (value_of v)) cells (row * i))
+      (stores (value_of v) ∙ ap (λ (n : ℕ). sets cells n (encode (value_of v))) start ∙ sets_min (encode (value_of v)) cells (value_row * i))
 
   -- ---- the live entries of a row
 
   -- its list, as the row has it
   row_entries : {a₄ a₅ : ℕ} → a₄ ≡ get_or cells (at + 4) 0 → a₅ ≡ get_or cells (at + 5) 0 →
-      length (list_of (cond (eqb a₄ 0) none (some (take a₅ (ids_of (padded row (drop at cells))))))) ≡ entries_of (value_at cells i)
+      length (list_of (cond (eqb a₄ 0) none (some (take a₅ (ids_of (padded value_row (drop at cells))))))) ≡ entries_of (value_at cells i)
   unfolding value_at decode
   row_entries e₄ e₅ = rw (← the_row, e₄, cell 4 (omega arith), e₅, cell 5 (omega arith))
 
@@ -139,8 +140,8 @@ module _ (cells : List ℕ) (i at : ℕ) (start : at ≡ min (row * i) (length c
 
   pub entries_some : {a₄ a₅ n : ℕ} → a₄ ≡ get_or cells (at + 4) 0 → a₅ ≡ get_or cells (at + 5) 0 → (a₄ ≡ 0 → ⊥) → n ≡ min a₅ 16 → n ≡ entries_of (value_at cells i)
   entries_some {a₄} {a₅} e₄ e₅ z m =
-      let l : length (ids_of (padded row (drop at cells))) ≡ 16 = simp (length-map, length-take, length-drop, length_padded) in
-      m ∙ sym (length-take a₅ (ids_of (padded row (drop at cells))) ∙ ap (min a₅) l) ∙ (rw (ne_eqb a₄ 0 z) at (row_entries e₄ e₅))
+      let l : length (ids_of (padded value_row (drop at cells))) ≡ 16 = simp (length-map, length-take, length-drop, length_padded) in
+      m ∙ sym (length-take a₅ (ids_of (padded value_row (drop at cells))) ∙ ap (min a₅) l) ∙ (rw (ne_eqb a₄ 0 z) at (row_entries e₄ e₅))
 
   -- ---- a row in parts
 
@@ -148,14 +149,14 @@ module _ (cells : List ℕ) (i at : ℕ) (start : at ≡ min (row * i) (length c
   bound_read e = e ∙ ap (λ (v : Value). v.bound) (row_read refl refl refl refl refl refl)
 
   row_values : {a₄ : ℕ} → a₄ ≡ get_or cells (at + 4) 0 →
-      (value_at cells i).values ≡ cond (eqb a₄ 0) none (some (take (get_or cells (at + 5) 0) (ids_of (padded row (drop at cells)))))
+      (value_at cells i).values ≡ cond (eqb a₄ 0) none (some (take (get_or cells (at + 5) 0) (ids_of (padded value_row (drop at cells)))))
   unfolding value_at decode
   row_values e₄ = rw (← the_row, e₄, cell 4 (omega arith), cell 5 (omega arith))
 
   pub listed_read : {a₄ : ℕ} → a₄ ≡ get_or cells (at + 4) 0 → not (eqb a₄ 0) ≡ listed? (value_at cells i).values
   listed_read {a₄} e₄ = go (eqb a₄ 0) ∙ ap listed? (sym (row_values e₄))
     where
-      go : (t : Bool) → not t ≡ listed? (cond t none (some (take (get_or cells (at + 5) 0) (ids_of (padded row (drop at cells))))))
+      go : (t : Bool) → not t ≡ listed? (cond t none (some (take (get_or cells (at + 5) 0) (ids_of (padded value_row (drop at cells))))))
       go true = refl
       go false = refl
 

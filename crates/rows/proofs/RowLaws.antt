@@ -32,7 +32,8 @@ use Rattle.std.specs.Prelude.{None, Some}
 use Rattle.lattice.specs.Value.{Value, reason_number}
 use Rattle.lattice.specs.Lattice.{numeric}
 use Rattle.lattice.proofs.LiveLaws.{size}
-use Rattle.rows.specs.Row.{row, padded, integrality_cell, case_cell, low_cell, high_cell, kept_cell, list_of, entries_of, encode, integrality_of, interval_of, reason_of, id_of, decode, value_at, put, values_of}
+use Rattle.sizes.specs.Sizes.{value_row}
+use Rattle.rows.specs.Row.{padded, integrality_cell, case_cell, low_cell, high_cell, kept_cell, list_of, entries_of, encode, integrality_of, interval_of, reason_of, id_of, decode, value_at, put, values_of}
 use Rattle.rows.specs.WellFormed.{Proper, Short, WellFormed}
 
 -- ---- the first n of a list, with 0 beyond its end
@@ -51,9 +52,9 @@ get_or_padded n l k h = get_or-take n (l ++ replicate n 0) k 0 h ∙ elim (dec_l
       ∙ get_or-replicate n (k - length l) 0 0 (omega arith) ∙ sym (get_or-eq_default l 0 (omega arith))
 ]
 
-pub length_encode : (v : Value) → length (encode v) ≡ row
+pub length_encode : (v : Value) → length (encode v) ≡ value_row
 unfolding encode
-length_encode v = omega (arith, length_padded (row - 7) (list_of v.values))
+length_encode v = omega (arith, length_padded (value_row - 7) (list_of v.values))
 
 -- ---- live entries, as the lattice counts them
 
@@ -101,15 +102,15 @@ decode_formed r h =
     ends_formed r (all_get_d (λ n. n < 2 ^ 32) r 2 0 h (omega arith)) (all_get_d (λ n. n < 2 ^ 32) r 3 0 h (omega arith))
 
 -- what a cell of a row is
-pub row_cell : (cells : List ℕ) (b k : ℕ) → k < row → get_or (padded row (drop b cells)) k 0 ≡ get_or cells (b + k) 0
-row_cell cells b k h = get_or_padded row (drop b cells) k h ∙ get_or-drop b cells k 0
+pub row_cell : (cells : List ℕ) (b k : ℕ) → k < value_row → get_or (padded value_row (drop b cells)) k 0 ≡ get_or cells (b + k) 0
+row_cell cells b k h = get_or_padded value_row (drop b cells) k h ∙ get_or-drop b cells k 0
 
 pub value_formed : (cells : List ℕ) (i : ℕ) → All (λ n. n < 2 ^ 32) cells → WellFormed (value_at cells i)
 unfolding value_at
-value_formed cells i h = ends_formed (padded row (drop (row * i) cells)) (small 2 (omega arith)) (small 3 (omega arith))
+value_formed cells i h = ends_formed (padded value_row (drop (value_row * i) cells)) (small 2 (omega arith)) (small 3 (omega arith))
   where
-    small : (k : ℕ) → k < row → get_or (padded row (drop (row * i) cells)) k 0 < 2 ^ 32
-    small k g = rw (row_cell cells (row * i) k g) (all_get_d (λ n. n < 2 ^ 32) cells (row * i + k) 0 h (omega arith))
+    small : (k : ℕ) → k < value_row → get_or (padded value_row (drop (value_row * i) cells)) k 0 < 2 ^ 32
+    small k g = rw (row_cell cells (value_row * i) k g) (all_get_d (λ n. n < 2 ^ 32) cells (value_row * i + k) 0 h (omega arith))
 
 -- ---- a well-formed value comes back from its row
 
@@ -131,20 +132,20 @@ reason_back (Some SymbolSize) = refl
 reason_back (Some ValueWidth) = refl
 reason_back (Some Dependency) = refl
 
-ids_back : (l : List ℕ) → length l ≤ 16 → All (λ n. n < 2 ^ 16) l → take (length l) (map id_of (take 16 (padded (row - 7) l))) ≡ l
+ids_back : (l : List ℕ) → length l ≤ 16 → All (λ n. n < 2 ^ 16) l → take (length l) (map id_of (take 16 (padded (value_row - 7) l))) ≡ l
 ids_back l h s =
-    ext_get_or 0 (take (length l) (map id_of (take 16 (padded (row - 7) l)))) l
+    ext_get_or 0 (take (length l) (map id_of (take 16 (padded (value_row - 7) l)))) l
     (simp (length-take, length-map, length_padded) (omega arith))
     (λ k g. let g' : k < length l = omega (arith, simp (length-take, length-map, length_padded) at g) in at k g')
   where
-    at : (k : ℕ) → k < length l → get_or (take (length l) (map id_of (take 16 (padded (row - 7) l)))) k 0 ≡ get_or l k 0
+    at : (k : ℕ) → k < length l → get_or (take (length l) (map id_of (take 16 (padded (value_row - 7) l)))) k 0 ≡ get_or l k 0
     at k g =
-        get_or-take (length l) (map id_of (take 16 (padded (row - 7) l))) k 0 g ∙ get_or-map id_of (take 16 (padded (row - 7) l)) k 0
-        ∙ ap id_of (get_or-take 16 (padded (row - 7) l) k 0 (omega arith) ∙ get_or_padded (row - 7) l k (omega arith))
+        get_or-take (length l) (map id_of (take 16 (padded (value_row - 7) l))) k 0 g ∙ get_or-map id_of (take 16 (padded (value_row - 7) l)) k 0
+        ∙ ap id_of (get_or-take 16 (padded (value_row - 7) l) k 0 (omega arith) ∙ get_or_padded (value_row - 7) l k (omega arith))
         ∙ (let b = all_get_d (λ n. n < 2 ^ 16) l k 0 s (omega arith) in omega arith)
 
 values_back : (x : Option (List ℕ)) → Short x →
-    cond (eqb (kept_cell x) 0) none (some (take (length (list_of x)) (map id_of (take 16 (padded (row - 7) (list_of x)))))) ≡ x
+    cond (eqb (kept_cell x) 0) none (some (take (length (list_of x)) (map id_of (take 16 (padded (value_row - 7) (list_of x)))))) ≡ x
 values_back none s = refl
 values_back (some l) s = ap some (ids_back l s.0 s.1)
 
@@ -161,28 +162,28 @@ decode_encode v w =
 
 pub length_put : (cells : List ℕ) (i : ℕ) (v : Value) → length (put cells i v) ≡ length cells
 unfolding put
-length_put cells i v = length-sets cells (row * i) (encode v)
+length_put cells i v = length-sets cells (value_row * i) (encode v)
 
 module _ (cells : List ℕ) (i : ℕ) (v : Value) where
-  row_back : row * i + row ≤ length cells → padded row (drop (row * i) (put cells i v)) ≡ encode v
+  row_back : value_row * i + value_row ≤ length cells → padded value_row (drop (value_row * i) (put cells i v)) ≡ encode v
   unfolding put
   row_back h =
-      ext_get_or 0 (padded row (drop (row * i) (sets cells (row * i) (encode v)))) (encode v) (length_padded row (drop (row * i) (sets cells (row * i) (encode v))) ∙ sym (length_encode v))
+      ext_get_or 0 (padded value_row (drop (value_row * i) (sets cells (value_row * i) (encode v)))) (encode v) (length_padded value_row (drop (value_row * i) (sets cells (value_row * i) (encode v))) ∙ sym (length_encode v))
       (λ k g.
       let n = length_encode v in
-      let g' : k < row = omega (arith, length_padded row (drop (row * i) (sets cells (row * i) (encode v)))) in
-      row_cell (sets cells (row * i) (encode v)) (row * i) k g' ∙ sets_in 0 (encode v) cells (row * i) k (omega arith) (omega arith))
+      let g' : k < value_row = omega (arith, length_padded value_row (drop (value_row * i) (sets cells (value_row * i) (encode v)))) in
+      row_cell (sets cells (value_row * i) (encode v)) (value_row * i) k g' ∙ sets_in 0 (encode v) cells (value_row * i) k (omega arith) (omega arith))
 
   -- it reads back
-  pub put_back : row * i + row ≤ length cells → WellFormed v → value_at (put cells i v) i ≡ v
+  pub put_back : value_row * i + value_row ≤ length cells → WellFormed v → value_at (put cells i v) i ≡ v
   unfolding value_at
   put_back h w = ap decode (row_back h) ∙ decode_encode v w
 
-  cell_other : (j k : ℕ) → (j ≡ i → ⊥) → k < row → get_or (put cells i v) (row * j + k) 0 ≡ get_or cells (row * j + k) 0
+  cell_other : (j k : ℕ) → (j ≡ i → ⊥) → k < value_row → get_or (put cells i v) (value_row * j + k) 0 ≡ get_or cells (value_row * j + k) 0
   unfolding put
   cell_other j k n h = elim (dec_lt j i) [
-    | yes l ↦ sets_before 0 (encode v) cells (row * i) (row * j + k) (omega arith)
-    | no l ↦ sets_after 0 (encode v) cells (row * i) (row * j + k) (omega (arith, length_encode v, apart j n l))
+    | yes l ↦ sets_before 0 (encode v) cells (value_row * i) (value_row * j + k) (omega arith)
+    | no l ↦ sets_after 0 (encode v) cells (value_row * i) (value_row * j + k) (omega (arith, length_encode v, apart j n l))
   ]
     where
       apart : (j : ℕ) → (j ≡ i → ⊥) → (j < i → ⊥) → i < j
@@ -193,11 +194,11 @@ module _ (cells : List ℕ) (i : ℕ) (v : Value) where
   unfolding value_at
   put_other j n =
       ap decode (
-      ext_get_or 0 (padded row (drop (row * j) (put cells i v))) (padded row (drop (row * j) cells))
-      (length_padded row (drop (row * j) (put cells i v)) ∙ sym (length_padded row (drop (row * j) cells)))
+      ext_get_or 0 (padded value_row (drop (value_row * j) (put cells i v))) (padded value_row (drop (value_row * j) cells))
+      (length_padded value_row (drop (value_row * j) (put cells i v)) ∙ sym (length_padded value_row (drop (value_row * j) cells)))
       (λ k g.
-      let g' : k < row = omega (arith, length_padded row (drop (row * j) (put cells i v))) in
-      row_cell (put cells i v) (row * j) k g' ∙ cell_other j k n g' ∙ sym (row_cell cells (row * j) k g'))
+      let g' : k < value_row = omega (arith, length_padded value_row (drop (value_row * j) (put cells i v))) in
+      row_cell (put cells i v) (value_row * j) k g' ∙ cell_other j k n g' ∙ sym (row_cell cells (value_row * j) k g'))
       )
 
 -- ---- the values of a table
@@ -217,7 +218,7 @@ get_or_values cells (suc n) i d h = elim (dec_lt i n) [
       get_or_at (values_of cells n) (value_at cells n) [] d i (length_values cells n ∙ e) ∙ ap (value_at cells) e
 ]
 
-pub put_is_set : (cells : List ℕ) (n i : ℕ) (v : Value) → i < n → row * n ≤ length cells → WellFormed v →
+pub put_is_set : (cells : List ℕ) (n i : ℕ) (v : Value) → i < n → value_row * n ≤ length cells → WellFormed v →
     values_of (put cells i v) n ≡ set (values_of cells n) i v
 put_is_set cells n i v h inside w =
     ext_get_or v (values_of (put cells i v) n) (set (values_of cells n) i v)

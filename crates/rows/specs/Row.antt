@@ -1,5 +1,6 @@
--- A value as a row of `row` cells in a lent table. A cell beyond the table reads as 0 and is not written, and any contents read as a value.
+-- A value as a row of cells in a lent table. A cell beyond the table reads as 0 and is not written, and any contents read as a value.
 use Rattle.std.specs.Prelude.{ℕ, zero, suc, ◌+◌, ◌-◌, ◌*◌, ◌%◌, ◌^◌, Bool, true, false, cond, List, [], ◌∷◌, ◌++◌, map, eqb, ℤ, length, get_or, take, drop, replicate}
+use Rattle.sizes.specs.Sizes as size
 use Rattle.std.proofs.Math.Option.{Option, some, none}
 use Rattle.std.proofs.lemmas.List.Edits.{sets}
 use Rattle.interval.specs.declared.Integrality.{Integrality}
@@ -13,10 +14,6 @@ use Rattle.lattice.specs.declared.Widening.TheVariants.{HeadForm, HeadTerm, Unbo
 use Rattle.lattice.specs.Value.{Reason}
 use Rattle.std.specs.Prelude.{None, Some}
 use Rattle.lattice.specs.Value.{Value, reason_number}
-
--- the constant ROW
-abbrev pub row : ℕ
-row = 24
 
 -- the first n of a list, with 0 beyond its end
 unfoldable pub padded : ℕ → List ℕ → List ℕ
@@ -64,7 +61,7 @@ entries_of v = length (list_of v.values)
 
 unfoldable pub encode : Value → List ℕ
 encode v =
-    bound_cells v.bound ++ (kept_cell v.values ∷ length (list_of v.values) ∷ reason_number v.widening ∷ padded (row - 7) (list_of v.values))
+    bound_cells v.bound ++ (kept_cell v.values ∷ length (list_of v.values) ∷ reason_number v.widening ∷ padded (size.value_row - size.value_ids) (list_of v.values))
 
 -- ---- and back
 
@@ -86,31 +83,31 @@ id_of n = n % 2 ^ 16
 
 -- the 16 ids; a longer list reads as all of them
 abbrev pub ids_of : List ℕ → List ℕ
-ids_of r = map id_of (take 16 (drop 7 r))
+ids_of r = map id_of (take size.width (drop size.value_ids r))
 
 unfoldable pub decode : List ℕ → Value
 decode r = record {
   bound = record {
     integrality = integrality_of (get_or r 0 0);
-    interval = interval_of (get_or r 1 0) (of_cell (get_or r 2 0)) (of_cell (get_or r 3 0));
+    interval = interval_of (get_or r size.value_case 0) (of_cell (get_or r size.value_low 0)) (of_cell (get_or r size.value_high 0));
   };
-  values = cond (eqb (get_or r 4 0) 0) none (some (take (get_or r 5 0) (ids_of r)));
-  widening = reason_of (get_or r 6 0);
+  values = cond (eqb (get_or r size.value_kept 0) 0) none (some (take (get_or r size.value_length 0) (ids_of r)));
+  widening = reason_of (get_or r size.value_reason 0);
 }
 
 -- ---- a table of rows
 
 unfoldable pub value_at : List ℕ → ℕ → Value
-value_at cells i = decode (padded row (drop (row * i) cells))
+value_at cells i = decode (padded size.value_row (drop (size.value_row * i) cells))
 
 unfoldable pub put : List ℕ → ℕ → Value → List ℕ
-put cells i v = sets cells (row * i) (encode v)
+put cells i v = sets cells (size.value_row * i) (encode v)
 
 -- the bound of the row that begins at a place
 abbrev pub bound_of : List ℕ → ℕ → Bound
 bound_of cells at = record {
   integrality = integrality_of (get_or cells at 0);
-  interval = interval_of (get_or cells (at + 1) 0) (of_cell (get_or cells (at + 2) 0)) (of_cell (get_or cells (at + 3) 0));
+  interval = interval_of (get_or cells (at + size.value_case) 0) (of_cell (get_or cells (at + size.value_low) 0)) (of_cell (get_or cells (at + size.value_high) 0));
 }
 
 -- the first n rows

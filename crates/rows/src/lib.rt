@@ -1,29 +1,26 @@
-//! Abstract values in lent tables: a row of ROW cells for each. Cells beyond a table read as 0 and are not written, so that
+//! Abstract values in lent tables: a row for each. Cells beyond a table read as 0 and are not written, so that
 //! any table and any row number will do; any contents read as a value.
 #![tactic(auto)]
 
 ghost use Rattle.std.specs.Prelude.{◌≡◌, min, ◌+◌, ◌-◌, ◌*◌, ◌≤◌, length, get_or, drop};
 ghost use Rattle.std.proofs.lemmas.List.Edits.{sets};
+ghost use Rattle.sizes.specs.Sizes as size;
 ghost use Rattle.cells.specs.Cells.{of_cell};
 ghost use Rattle.lists.specs.Ids.{seen};
 ghost use Rattle.lattice.specs.Value.{value_of};
 ghost use Rattle.lattice.specs.Lattice.{copied};
-ghost use Rattle.rows.specs.Row.{row, padded, integrality_cell, case_cell, low_cell, high_cell, bound_cells, bound_of, listed?, list_of, entries_of, integrality_of, interval_of, reason_of, ids_of, value_at, put};
+ghost use Rattle.rows.specs.Row.{padded, integrality_cell, case_cell, low_cell, high_cell, bound_cells, bound_of, listed?, list_of, entries_of, integrality_of, interval_of, reason_of, ids_of, value_at, put};
 
 use cells::{cell_at, of_cell, put_cell, to_cell};
 use interval::{Bound, Integrality, Interval};
 use lattice::{Abstract, Widening};
 use limits::{Meter, Stop};
 
-// The cells of a row: integrality, the interval's case and two ends, whether there is a list, its length, the reason,
-// 16 ids, and one unused.
-pub const ROW: usize = 24;
-
 // Where a row begins. All rows beyond the table begin at its end.
 fn start(len: usize, number: usize) -> usize
-    ensures { result ≡ min (row * number) len }
+    ensures { result ≡ min (size.value_row * number) len }
 {
-    ROW.saturating_mul(number).min(len)
+    sizes::VALUE_ROW.saturating_mul(number).min(len)
 }
 
 pub fn integrality_of(cell: u32) -> Integrality
@@ -60,13 +57,13 @@ fn reason_of(cell: u32) -> Option<Widening>
 }
 
 // The ids of the row that begins at `at`. `%` with a cast, since a cast alone must fit and no `From` cuts a number.
-fn ids_at(cells: &[u32], at: usize) -> [u16; 16]
+fn ids_at(cells: &[u32], at: usize) -> [u16; sizes::WIDTH]
     requires { at ≤ length cells.now }
-    ensures { result ≡ ids_of (padded row (drop at cells.now)) }
+    ensures { result ≡ ids_of (padded size.value_row (drop at cells.now)) }
 {
-    let mut ids = [0; 16];
-    for j in 0..16 {
-        ids[j] = (cell_at(cells, at + 7 + j) % 65536) as u16;
+    let mut ids = [0; sizes::WIDTH];
+    for j in 0..sizes::WIDTH {
+        ids[j] = (cell_at(cells, at + sizes::VALUE_IDS + j) % 65536) as u16;
     }
     ids
 }
@@ -79,9 +76,9 @@ fn read_bound(cells: &[u32], at: usize) -> Bound
     Bound {
         integrality: integrality_of(cell_at(cells, at)),
         interval: interval_of(
-            cell_at(cells, at + 1),
-            cell_at(cells, at + 2),
-            cell_at(cells, at + 3),
+            cell_at(cells, at + sizes::VALUE_CASE),
+            cell_at(cells, at + sizes::VALUE_LOW),
+            cell_at(cells, at + sizes::VALUE_HIGH),
         ),
     }
 }
@@ -91,14 +88,14 @@ pub fn abstract_at(cells: &[u32], row: usize) -> Abstract
 {
     let at = start(cells.len(), row);
     let bound = read_bound(cells, at);
-    let kept = cell_at(cells, at + 4) != 0;
-    let len = cell_at(cells, at + 5) as usize;
-    let reason = reason_of(cell_at(cells, at + 6));
+    let kept = cell_at(cells, at + sizes::VALUE_KEPT) != 0;
+    let len = cell_at(cells, at + sizes::VALUE_LENGTH) as usize;
+    let reason = reason_of(cell_at(cells, at + sizes::VALUE_REASON));
     // Without a list there are no ids to read.
     if !kept {
         return Abstract {
             bound,
-            ids: [0; 16],
+            ids: [0; sizes::WIDTH],
             len,
             kept,
             reason,
@@ -157,15 +154,15 @@ fn put_bound(cells: &mut [u32], at: usize, bound: Bound)
     ensures { cells.new ≡ sets cells.old at (bound_cells bound) }
 {
     put_cell(cells, at, integrality_cell(bound.integrality));
-    put_cell(cells, at + 1, case_cell(bound.interval));
-    put_cell(cells, at + 2, low_cell(bound.interval));
-    put_cell(cells, at + 3, high_cell(bound.interval));
+    put_cell(cells, at + sizes::VALUE_CASE, case_cell(bound.interval));
+    put_cell(cells, at + sizes::VALUE_LOW, low_cell(bound.interval));
+    put_cell(cells, at + sizes::VALUE_HIGH, high_cell(bound.interval));
 }
 
 // The ids of the list, if there is one.
 fn listed_ids(value: &Abstract) -> &[u16]
     ensures list { result.now ≡ list_of (value_of value.now).values }
-    ensures short { length result.now ≤ 16 }
+    ensures short { length result.now ≤ size.width }
 {
     match value.list() {
         Some(ids) => ids,
@@ -185,10 +182,10 @@ pub fn entries_at(cells: &[u32], row: usize) -> u64
     ensures { result ≡ entries_of (value_at cells.now row) }
 {
     let at = start(cells.len(), row);
-    if cell_at(cells, at + 4) == 0 {
+    if cell_at(cells, at + sizes::VALUE_KEPT) == 0 {
         return 0;
     }
-    u64::from(cell_at(cells, at + 5).min(16))
+    u64::from(cell_at(cells, at + sizes::VALUE_LENGTH).min(sizes::WIDTH as u32))
 }
 
 // The bound of the value in a row.
@@ -203,7 +200,7 @@ pub fn is_listed(cells: &[u32], row: usize) -> bool
     ensures { result ≡ listed? (value_at cells.now row).values }
 {
     let at = start(cells.len(), row);
-    cell_at(cells, at + 4) != 0
+    cell_at(cells, at + sizes::VALUE_KEPT) != 0
 }
 
 // What a copy of the value in a row costs. The value itself is not read: its ids are many.
@@ -232,10 +229,10 @@ fn id_at(ids: &[u16], j: usize) -> u32
 // The list's ids, and 0 behind them, into the row that begins at `at`.
 fn put_ids(cells: &mut [u32], at: usize, ids: &[u16])
     requires { at ≤ length cells.old }
-    ensures { cells.new ≡ sets cells.old (at + 7) (padded (row - 7) ids.now) }
+    ensures { cells.new ≡ sets cells.old (at + size.value_ids) (padded (size.value_row - size.value_ids) ids.now) }
 {
-    for j in 0..ROW - 7 {
-        put_cell(cells, at + 7 + j, id_at(ids, j));
+    for j in 0..sizes::VALUE_ROW - sizes::VALUE_IDS {
+        put_cell(cells, at + sizes::VALUE_IDS + j, id_at(ids, j));
     }
 }
 
@@ -245,8 +242,12 @@ pub fn put_abstract(cells: &mut [u32], row: usize, value: Abstract)
     let at = start(cells.len(), row);
     let ids = listed_ids(&value);
     put_bound(cells, at, value.bound);
-    put_cell(cells, at + 4, u32::from(value.kept));
-    put_cell(cells, at + 5, ids.len() as u32);
-    put_cell(cells, at + 6, lattice::reason_number(value.reason));
+    put_cell(cells, at + sizes::VALUE_KEPT, u32::from(value.kept));
+    put_cell(cells, at + sizes::VALUE_LENGTH, ids.len() as u32);
+    put_cell(
+        cells,
+        at + sizes::VALUE_REASON,
+        lattice::reason_number(value.reason),
+    );
     put_ids(cells, at, ids);
 }

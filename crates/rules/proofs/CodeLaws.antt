@@ -19,7 +19,8 @@ use Rattle.rules.specs.declared.Guard.{Guard}
 use Rattle.rules.specs.declared.Guard.TheVariants.{Compare, Membership}
 use Rattle.rules.specs.declared.Head.{Head}
 use Rattle.rules.specs.declared.Rule.{Rule}
-use Rattle.rules.specs.Rule.{binding_cells, guard_cells, head_cells, fixed_cells, bindings_of, guards_of, heads_of, flat, cell, row, put_rule}
+use Rattle.sizes.specs.Sizes.{rule_row}
+use Rattle.rules.specs.Rule.{binding_cells, guard_cells, head_cells, fixed_cells, bindings_of, guards_of, heads_of, flat, cell, put_rule}
 use Rattle.rules.specs.Read.{binding_of, guard_of, head_of, slots_at, context_at, binding_count, guard_count, head_count, binding_at, guard_at, head_at}
 
 -- ---- cells one after another
@@ -75,9 +76,9 @@ head_width h = refl
 
 -- ---- a whole row
 
-pub rule_put : (d : List ℕ) (id : ℕ) (r : Rule) (c : Context) {l₁ l₂ l₃ l : List ℕ} → l₁ ≡ sets d (row * id) (map cell (fixed_cells r c)) →
-    l₂ ≡ sets l₁ (row * id + 6) (map cell (flat binding_cells (bindings_of r))) →
-    l₃ ≡ sets l₂ (row * id + 134) (map cell (flat guard_cells (guards_of r))) → l ≡ sets l₃ (row * id + 262) (map cell (flat head_cells (heads_of r))) → l ≡ put_rule d id r c
+pub rule_put : (d : List ℕ) (id : ℕ) (r : Rule) (c : Context) {l₁ l₂ l₃ l : List ℕ} → l₁ ≡ sets d (rule_row * id) (map cell (fixed_cells r c)) →
+    l₂ ≡ sets l₁ (rule_row * id + 6) (map cell (flat binding_cells (bindings_of r))) →
+    l₃ ≡ sets l₂ (rule_row * id + 134) (map cell (flat guard_cells (guards_of r))) → l ≡ sets l₃ (rule_row * id + 262) (map cell (flat head_cells (heads_of r))) → l ≡ put_rule d id r c
 unfolding put_rule
 rule_put d id r c p q s t = t ∙ rw (s, q, p)
 
@@ -105,45 +106,45 @@ module _ (cells : List ℕ) where
   item_first x y a b o e f =
       ap (λ (n : ℕ). get_or cells n 0) (sym (add-zero (a + o + b))) ∙ item_reached x y a b o 0 e f ∙ ap (λ (n : ℕ). get_or cells n 0) (add-zero (x + o + y))
 
-  module _ (id at : ℕ) (start : at ≡ min (row * id) (length cells)) where
+  module _ (id at : ℕ) (start : at ≡ min (rule_row * id) (length cells)) where
     pub slots_read : {m n : ℕ} → m ≡ get_or cells at 0 → n ≡ min m 16 → n ≡ slots_at cells id
     unfolding slots_at
     slots_read p e =
         e
         ∙ ap (λ (m : ℕ). min m 16)
-        (p ∙ ap (λ (n : ℕ). get_or cells n 0) (sym (add-zero at)) ∙ reached (row * id) at 0 start ∙ ap (λ (n : ℕ). get_or cells n 0) (add-zero (row * id)))
+        (p ∙ ap (λ (n : ℕ). get_or cells n 0) (sym (add-zero at)) ∙ reached (rule_row * id) at 0 start ∙ ap (λ (n : ℕ). get_or cells n 0) (add-zero (rule_row * id)))
 
     pub context_read_lem : {m n : ℕ} {c : Context} → m ≡ get_or cells (at + 1) 0 → n ≡ get_or cells (at + 2) 0 → c ≡ then_some (not (eqb m 0)) n → c ≡ context_at cells id
     unfolding context_at
-    context_read_lem {m} {n} p q e = e ∙ unmarked (eqb m 0) n ∙ rw (p, q, reached (row * id) at 1 start, reached (row * id) at 2 start)
+    context_read_lem {m} {n} p q e = e ∙ unmarked (eqb m 0) n ∙ rw (p, q, reached (rule_row * id) at 1 start, reached (rule_row * id) at 2 start)
 
     pub binding_count_read : {m n : ℕ} → m ≡ get_or cells (at + 3) 0 → n ≡ min m 32 → n ≡ binding_count cells id
     unfolding binding_count
-    binding_count_read p e = e ∙ rw (p, reached (row * id) at 3 start)
+    binding_count_read p e = e ∙ rw (p, reached (rule_row * id) at 3 start)
 
     pub guard_count_read : {m n : ℕ} → m ≡ get_or cells (at + 4) 0 → n ≡ min m 32 → n ≡ guard_count cells id
     unfolding guard_count
-    guard_count_read p e = e ∙ rw (p, reached (row * id) at 4 start)
+    guard_count_read p e = e ∙ rw (p, reached (rule_row * id) at 4 start)
 
     pub head_count_read : {m n : ℕ} → m ≡ get_or cells (at + 5) 0 → n ≡ min m 16 → n ≡ head_count cells id
     unfolding head_count
-    head_count_read p e = e ∙ rw (p, reached (row * id) at 5 start)
+    head_count_read p e = e ∙ rw (p, reached (rule_row * id) at 5 start)
 
     module _ (j b : ℕ) where
       pub binding_read : {k l m n : ℕ} {x : Binding} → b ≡ min (4 * j) (length cells) → k ≡ get_or cells (at + 6 + b) 0 → l ≡ get_or cells (at + 6 + b + 1) 0 →
           m ≡ get_or cells (at + 6 + b + 2) 0 → n ≡ get_or cells (at + 6 + b + 3) 0 → x ≡ binding_of k l m n → x ≡ binding_at cells id j
       unfolding binding_at
       binding_read f p q r s e =
-          let c = item_reached (row * id) (4 * j) at b 6 in
-          e ∙ rw (p, q, r, s, item_first (row * id) (4 * j) at b 6 start f, c 1 start f, c 2 start f, c 3 start f)
+          let c = item_reached (rule_row * id) (4 * j) at b 6 in
+          e ∙ rw (p, q, r, s, item_first (rule_row * id) (4 * j) at b 6 start f, c 1 start f, c 2 start f, c 3 start f)
 
       pub guard_read : {k l m n : ℕ} {x : Guard} → b ≡ min (4 * j) (length cells) → k ≡ get_or cells (at + 134 + b) 0 → l ≡ get_or cells (at + 134 + b + 1) 0 →
           m ≡ get_or cells (at + 134 + b + 2) 0 → n ≡ get_or cells (at + 134 + b + 3) 0 → x ≡ guard_of k l m n → x ≡ guard_at cells id j
       unfolding guard_at
       guard_read f p q r s e =
-          let c = item_reached (row * id) (4 * j) at b 134 in
-          e ∙ rw (p, q, r, s, item_first (row * id) (4 * j) at b 134 start f, c 1 start f, c 2 start f, c 3 start f)
+          let c = item_reached (rule_row * id) (4 * j) at b 134 in
+          e ∙ rw (p, q, r, s, item_first (rule_row * id) (4 * j) at b 134 start f, c 1 start f, c 2 start f, c 3 start f)
 
       pub head_read : {k l : ℕ} → b ≡ min (2 * j) (length cells) → k ≡ get_or cells (at + 262 + b) 0 → l ≡ get_or cells (at + 262 + b + 1) 0 → {a v : ℕ} → a ≡ k → v ≡ l → head_of a v ≡ head_at cells id j
       unfolding head_at
-      head_read f p q ea ev = rw (ea, ev, p, q, item_first (row * id) (2 * j) at b 262 start f, item_reached (row * id) (2 * j) at b 262 1 start f)
+      head_read f p q ea ev = rw (ea, ev, p, q, item_first (rule_row * id) (2 * j) at b 262 start f, item_reached (rule_row * id) (2 * j) at b 262 1 start f)

@@ -21,7 +21,8 @@ use Rattle.rules.specs.declared.Guard.{Guard}
 use Rattle.rules.specs.declared.Guard.TheVariants.{Compare, Membership}
 use Rattle.rules.specs.declared.Head.{Head}
 use Rattle.rules.specs.declared.Rule.{Rule}
-use Rattle.rules.specs.Rule.{function_number, relation_number, binding_cells, guard_cells, head_cells, mark_of, number_of, fixed_cells, bindings_of, guards_of, heads_of, flat, cell, row, put_rule}
+use Rattle.sizes.specs.Sizes.{rule_row}
+use Rattle.rules.specs.Rule.{function_number, relation_number, binding_cells, guard_cells, head_cells, mark_of, number_of, fixed_cells, bindings_of, guards_of, heads_of, flat, cell, put_rule}
 use Rattle.rules.specs.Read.{function_of, relation_of, binding_of, guard_of, head_of, context_of, slots_at, context_at, binding_count, guard_count, head_count, binding_at, guard_at, head_at, bindings_at, guards_at, heads_at}
 use Rattle.rules.proofs.CodeLaws.{binding_width, guard_width, head_width}
 
@@ -227,16 +228,16 @@ module _ (cells : List ℕ) (id : ℕ) (r : Rule) (c : Context) (short : Short r
   few_heads = omega (arith, heads_long, short.heads, taken_few r.lengths.heads r.heads)
 
   -- its own
-  module _ (room : row * id + row ≤ length cells) (small : Small r) where
-    fixed_cell : (k : ℕ) → k < 6 → get_or (put_rule cells id r c) (row * id + k) 0 ≡ get_or fixed k 0
+  module _ (room : rule_row * id + rule_row ≤ length cells) (small : Small r) where
+    fixed_cell : (k : ℕ) → k < 6 → get_or (put_rule cells id r c) (rule_row * id + k) 0 ≡ get_or fixed k 0
     unfolding put_rule
-    fixed_cell k h = in_fixed cells fixed bindings guards heads (row * id) (omega arith) few_bindings few_guards few_heads room k h
+    fixed_cell k h = in_fixed cells fixed bindings guards heads (rule_row * id) (omega arith) few_bindings few_guards few_heads room k h
 
     pub slots_back : slots_at (put_rule cells id r c) id ≡ r.slots
     unfolding slots_at
     slots_back =
         ap (λ (n : ℕ). min n 16)
-        (subst (λ (i : ℕ). get_or (put_rule cells id r c) i 0 ≡ r.slots) (add-zero (row * id)) (fixed_cell 0 (omega arith) ∙ small_cell r.slots (omega (arith, short.slots))))
+        (subst (λ (i : ℕ). get_or (put_rule cells id r c) i 0 ≡ r.slots) (add-zero (rule_row * id)) (fixed_cell 0 (omega arith) ∙ small_cell r.slots (omega (arith, short.slots))))
         ∙ omega (arith, short.slots)
 
     pub context_reads : SmallContext c → context_at (put_rule cells id r c) id ≡ c
@@ -261,12 +262,12 @@ module _ (cells : List ℕ) (id : ℕ) (r : Rule) (c : Context) (short : Short r
     binding_reads z j h =
         let f : Binding → List ℕ = binding_cells in
         let t = put_rule cells id r c in
-        let part = in_bindings_lem cells fixed bindings guards heads (row * id) (omega arith) few_bindings few_guards few_heads room in
+        let part = in_bindings_lem cells fixed bindings guards heads (rule_row * id) (omega arith) few_bindings few_guards few_heads room in
         rw (
-          part_first f 4 binding_width (bindings_of r) t (row * id + 6) part z j h (omega arith),
-          part_cell f 4 binding_width (bindings_of r) t (row * id + 6) part z j h 1 (omega arith),
-          part_cell f 4 binding_width (bindings_of r) t (row * id + 6) part z j h 2 (omega arith),
-          part_cell f 4 binding_width (bindings_of r) t (row * id + 6) part z j h 3 (omega arith),
+          part_first f 4 binding_width (bindings_of r) t (rule_row * id + 6) part z j h (omega arith),
+          part_cell f 4 binding_width (bindings_of r) t (rule_row * id + 6) part z j h 1 (omega arith),
+          part_cell f 4 binding_width (bindings_of r) t (rule_row * id + 6) part z j h 2 (omega arith),
+          part_cell f 4 binding_width (bindings_of r) t (rule_row * id + 6) part z j h 3 (omega arith),
         )
         (binding_back (get_or (bindings_of r) j z) (all_at SmallBinding (bindings_of r) j z small.bindings h))
 
@@ -275,12 +276,12 @@ module _ (cells : List ℕ) (id : ℕ) (r : Rule) (c : Context) (short : Short r
     guard_reads z j h =
         let f : Guard → List ℕ = guard_cells in
         let t = put_rule cells id r c in
-        let part = in_guards_lem cells fixed bindings guards heads (row * id) (omega arith) few_bindings few_guards few_heads room in
+        let part = in_guards_lem cells fixed bindings guards heads (rule_row * id) (omega arith) few_bindings few_guards few_heads room in
         rw (
-          part_first f 4 guard_width (guards_of r) t (row * id + 134) part z j h (omega arith),
-          part_cell f 4 guard_width (guards_of r) t (row * id + 134) part z j h 1 (omega arith),
-          part_cell f 4 guard_width (guards_of r) t (row * id + 134) part z j h 2 (omega arith),
-          part_cell f 4 guard_width (guards_of r) t (row * id + 134) part z j h 3 (omega arith),
+          part_first f 4 guard_width (guards_of r) t (rule_row * id + 134) part z j h (omega arith),
+          part_cell f 4 guard_width (guards_of r) t (rule_row * id + 134) part z j h 1 (omega arith),
+          part_cell f 4 guard_width (guards_of r) t (rule_row * id + 134) part z j h 2 (omega arith),
+          part_cell f 4 guard_width (guards_of r) t (rule_row * id + 134) part z j h 3 (omega arith),
         )
         (guard_back (get_or (guards_of r) j z) (all_at SmallGuard (guards_of r) j z small.guards h))
 
@@ -288,33 +289,33 @@ module _ (cells : List ℕ) (id : ℕ) (r : Rule) (c : Context) (short : Short r
     unfolding head_at put_rule
     head_reads z j h =
         let t = put_rule cells id r c in
-        let part = in_heads cells fixed bindings guards heads (row * id) (omega arith) few_bindings few_guards few_heads room in
+        let part = in_heads cells fixed bindings guards heads (rule_row * id) (omega arith) few_bindings few_guards few_heads room in
         rw (
-          part_first head_cells 2 head_width (heads_of r) t (row * id + 262) part z j h (omega arith),
-          part_cell head_cells 2 head_width (heads_of r) t (row * id + 262) part z j h 1 (omega arith),
+          part_first head_cells 2 head_width (heads_of r) t (rule_row * id + 262) part z j h (omega arith),
+          part_cell head_cells 2 head_width (heads_of r) t (rule_row * id + 262) part z j h 1 (omega arith),
         )
         (head_back (get_or (heads_of r) j z) (all_at SmallHead (heads_of r) j z small.heads h))
 
   -- and another's, whatever the table holds
   module _ (j : ℕ) (other : j ≡ id → ⊥) where
-    cell_kept : (k : ℕ) → k < row → get_or (put_rule cells id r c) (row * j + k) 0 ≡ get_or cells (row * j + k) 0
+    cell_kept : (k : ℕ) → k < rule_row → get_or (put_rule cells id r c) (rule_row * j + k) 0 ≡ get_or cells (rule_row * j + k) 0
     unfolding put_rule
     cell_kept k h = go (compared j id)
       where
-        go : Compared j id → get_or (put_rule cells id r c) (row * j + k) 0 ≡ get_or cells (row * j + k) 0
-        go (less b) = parts_before cells fixed bindings guards heads (row * id) (omega arith) few_bindings few_guards few_heads (row * j + k) (omega arith)
-        go (more b) = parts_after cells fixed bindings guards heads (row * id) (omega arith) few_bindings few_guards few_heads (row * j + k) (omega arith)
+        go : Compared j id → get_or (put_rule cells id r c) (rule_row * j + k) 0 ≡ get_or cells (rule_row * j + k) 0
+        go (less b) = parts_before cells fixed bindings guards heads (rule_row * id) (omega arith) few_bindings few_guards few_heads (rule_row * j + k) (omega arith)
+        go (more b) = parts_after cells fixed bindings guards heads (rule_row * id) (omega arith) few_bindings few_guards few_heads (rule_row * j + k) (omega arith)
         go (same b) = absurd (other b)
 
     -- at any place of the row
-    place_kept : (m : ℕ) → row * j ≤ m → m < row * j + row → get_or (put_rule cells id r c) m 0 ≡ get_or cells m 0
+    place_kept : (m : ℕ) → rule_row * j ≤ m → m < rule_row * j + rule_row → get_or (put_rule cells id r c) m 0 ≡ get_or cells m 0
     place_kept m a b =
-        let e : row * j + (m - row * j) ≡ m = omega arith in
-        subst (λ (i : ℕ). get_or (put_rule cells id r c) i 0 ≡ get_or cells i 0) e (cell_kept (m - row * j) (omega arith))
+        let e : rule_row * j + (m - rule_row * j) ≡ m = omega arith in
+        subst (λ (i : ℕ). get_or (put_rule cells id r c) i 0 ≡ get_or cells i 0) e (cell_kept (m - rule_row * j) (omega arith))
 
     pub slots_kept : slots_at (put_rule cells id r c) j ≡ slots_at cells j
     unfolding slots_at
-    slots_kept = ap (λ (n : ℕ). min n 16) (place_kept (row * j) (omega arith) (omega arith))
+    slots_kept = ap (λ (n : ℕ). min n 16) (place_kept (rule_row * j) (omega arith) (omega arith))
 
     pub context_kept : context_at (put_rule cells id r c) j ≡ context_at cells j
     unfolding context_at
@@ -335,19 +336,19 @@ module _ (cells : List ℕ) (id : ℕ) (r : Rule) (c : Context) (short : Short r
     pub binding_kept : (i : ℕ) → i < 32 → binding_at (put_rule cells id r c) j i ≡ binding_at cells j i
     unfolding binding_at
     binding_kept i h =
-        let m = row * j + 6 + 4 * i in
+        let m = rule_row * j + 6 + 4 * i in
         rw (place_kept m (omega arith) (omega arith), place_kept (m + 1) (omega arith) (omega arith), place_kept (m + 2) (omega arith) (omega arith), place_kept (m + 3) (omega arith) (omega arith))
 
     pub guard_kept : (i : ℕ) → i < 32 → guard_at (put_rule cells id r c) j i ≡ guard_at cells j i
     unfolding guard_at
     guard_kept i h =
-        let m = row * j + 134 + 4 * i in
+        let m = rule_row * j + 134 + 4 * i in
         rw (place_kept m (omega arith) (omega arith), place_kept (m + 1) (omega arith) (omega arith), place_kept (m + 2) (omega arith) (omega arith), place_kept (m + 3) (omega arith) (omega arith))
 
     pub head_kept : (i : ℕ) → i < 16 → head_at (put_rule cells id r c) j i ≡ head_at cells j i
     unfolding head_at
     head_kept i h =
-        let m = row * j + 262 + 2 * i in
+        let m = rule_row * j + 262 + 2 * i in
         rw (place_kept m (omega arith) (omega arith), place_kept (m + 1) (omega arith) (omega arith))
 
 -- ---- all of it at once
@@ -407,7 +408,7 @@ module _ (cells : List ℕ) (id : ℕ) (r : Rule) (c : Context) where
   unfolding put_rule
   length_rule = simp length-sets refl
 
-  pub rule_back : Short r → row * id + row ≤ length cells → Small r → SmallContext c → Row r c (put_rule cells id r c) id
+  pub rule_back : Short r → rule_row * id + rule_row ≤ length cells → Small r → SmallContext c → Row r c (put_rule cells id r c) id
   rule_back short room small s =
       row_of
       (slots_back cells id r c short room small)

@@ -1,6 +1,7 @@
 -- A rule's row read back. Whatever the cells hold reads as something: a count is at most what a row has room for, a kind that does not exist
 -- reads as the first, and the number of a function or a relation that does not exist as the last.
 use Rattle.std.specs.Prelude.{ℕ, min, ◌+◌, ◌*◌, cond, List, [], ◌∷◌, eqb, get_or}
+use Rattle.sizes.specs.Sizes as size
 use Rattle.integers.specs.Lists.{from}
 use Rattle.store.specs.Store.{Context}
 use Rattle.std.specs.Prelude.{None, Some}
@@ -13,7 +14,6 @@ use Rattle.rules.specs.declared.Binding.TheVariants.{Positive, Assign, Range, Ag
 use Rattle.rules.specs.declared.Guard.{Guard}
 use Rattle.rules.specs.declared.Guard.TheVariants.{Compare, Membership}
 use Rattle.rules.specs.declared.Head.{Head}
-use Rattle.rules.specs.Rule.{row}
 
 -- ---- from cells
 
@@ -39,19 +39,19 @@ context_of mark number = cond (eqb mark 0) None (Some number)
 -- ---- the row of an id
 
 unfoldable pub slots_at : List ℕ → ℕ → ℕ
-slots_at cells id = min (get_or cells (row * id) 0) 16
+slots_at cells id = min (get_or cells (size.rule_row * id) 0) size.slots
 
 unfoldable pub context_at : List ℕ → ℕ → Context
-context_at cells id = context_of (get_or cells (row * id + 1) 0) (get_or cells (row * id + 2) 0)
+context_at cells id = context_of (get_or cells (size.rule_row * id + size.rule_mark) 0) (get_or cells (size.rule_row * id + size.rule_context) 0)
 
 unfoldable pub binding_count : List ℕ → ℕ → ℕ
-binding_count cells id = min (get_or cells (row * id + 3) 0) 32
+binding_count cells id = min (get_or cells (size.rule_row * id + size.rule_lengths) 0) size.bindings
 
 unfoldable pub guard_count : List ℕ → ℕ → ℕ
-guard_count cells id = min (get_or cells (row * id + 4) 0) 32
+guard_count cells id = min (get_or cells (size.rule_row * id + size.rule_lengths + 1) 0) size.guards
 
 unfoldable pub head_count : List ℕ → ℕ → ℕ
-head_count cells id = min (get_or cells (row * id + 5) 0) 16
+head_count cells id = min (get_or cells (size.rule_row * id + size.rule_lengths + 2) 0) size.heads
 
 -- the j-th binding, guard and head; one beyond its count is what stands there
 abbrev pub binding_from : List ℕ → ℕ → Binding
@@ -64,13 +64,13 @@ abbrev pub head_from : List ℕ → ℕ → Head
 head_from cells at = head_of (get_or cells at 0) (get_or cells (at + 1) 0)
 
 unfoldable pub binding_at : List ℕ → ℕ → ℕ → Binding
-binding_at cells id j = binding_from cells (row * id + 6 + 4 * j)
+binding_at cells id j = binding_from cells (size.rule_row * id + size.rule_bindings + 4 * j)
 
 unfoldable pub guard_at : List ℕ → ℕ → ℕ → Guard
-guard_at cells id j = guard_from cells (row * id + 134 + 4 * j)
+guard_at cells id j = guard_from cells (size.rule_row * id + size.rule_guards + 4 * j)
 
 unfoldable pub head_at : List ℕ → ℕ → ℕ → Head
-head_at cells id j = head_from cells (row * id + 262 + 2 * j)
+head_at cells id j = head_from cells (size.rule_row * id + size.rule_heads + 2 * j)
 
 -- all that a row has
 abbrev pub bindings_at : List ℕ → ℕ → List Binding

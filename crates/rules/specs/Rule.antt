@@ -1,5 +1,6 @@
 -- A rule as a row of cells in a lent table: its slots, its context and how many bindings, guards and heads it has, then these.
 use Rattle.std.specs.Prelude.{ℕ, ◌+◌, ◌*◌, ◌%◌, ◌^◌, List, [], ◌∷◌, ◌++◌, map, take}
+use Rattle.sizes.specs.Sizes as size
 use Rattle.std.proofs.lemmas.List.Edits.{sets}
 use Rattle.store.specs.Store.{Context}
 use Rattle.std.specs.Prelude.{None, Some}
@@ -76,10 +77,6 @@ cell n = n % 2 ^ 32
 
 -- ---- a table of rows
 
--- the constant ROW: 6 cells, 32 bindings and 32 guards of four, 16 heads of two
-abbrev pub row : ℕ
-row = 294
-
 abbrev pub fixed_cells : Rule → Context → List ℕ
 fixed_cells r c = r.slots ∷ mark_of c ∷ number_of c ∷ r.lengths.bindings ∷ r.lengths.guards ∷ r.lengths.heads ∷ []
 
@@ -88,8 +85,8 @@ unfoldable pub put_rule : List ℕ → ℕ → Rule → Context → List ℕ
 put_rule cells id r c =
     sets
     (sets
-    (sets (sets cells (row * id) (map cell (fixed_cells r c))) (row * id + 6) (map cell (flat binding_cells (bindings_of r))))
-    (row * id + 134)
+    (sets (sets cells (size.rule_row * id) (map cell (fixed_cells r c))) (size.rule_row * id + size.rule_bindings) (map cell (flat binding_cells (bindings_of r))))
+    (size.rule_row * id + size.rule_guards)
     (map cell (flat guard_cells (guards_of r))))
-    (row * id + 262)
+    (size.rule_row * id + size.rule_heads)
     (map cell (flat head_cells (heads_of r)))

@@ -5,7 +5,9 @@ ghost use Rattle.std.specs.Prelude.{◌≡◌, ℕ, List, [], ◌∷◌, map, mi
 ghost use Rattle.rules.specs.declared.Binding.TheVariants.{Positive, Assign, Range, Aggregate};
 ghost use Rattle.rules.specs.declared.Guard.TheVariants.{Compare, Membership};
 ghost use Rattle.std.proofs.lemmas.List.Edits.{sets};
-ghost use Rattle.rules.specs.Rule.{function_number, relation_number, binding_cells, guard_cells, head_cells, fixed_cells, flat, cell, row, put_rule};
+ghost use Rattle.sizes.specs.Sizes as size;
+ghost use Rattle.sizes.specs.Sizes.{rule_row};
+ghost use Rattle.rules.specs.Rule.{function_number, relation_number, binding_cells, guard_cells, head_cells, fixed_cells, flat, cell, put_rule};
 ghost use Rattle.rules.specs.Read.{function_of, relation_of, binding_of, guard_of, head_of, slots_at, context_at, binding_count, guard_count, head_count, binding_at, guard_at, head_at};
 
 #[derive(Clone, Copy, Debug, PartialEq, Eq)]
@@ -82,14 +84,11 @@ pub struct Lengths {
 #[derive(Clone, Copy)]
 pub struct Rule {
     pub slots: u64,
-    pub bindings: [Binding; 32],
-    pub guards: [Guard; 32],
-    pub heads: [Head; 16],
+    pub bindings: [Binding; sizes::BINDINGS],
+    pub guards: [Guard; sizes::GUARDS],
+    pub heads: [Head; sizes::HEADS],
     pub lengths: Lengths,
 }
-
-// The cells of a row: slots, context, three lengths, 32 bindings and 32 guards of four cells, 16 heads of two.
-pub const ROW: usize = 294;
 
 // The numbers that the job format has.
 impl From<AggregateFunction> for u64 {
@@ -160,7 +159,7 @@ trait Item: Copy {
     ghost item_cells: { Self → List ℕ };
 
     fn put(self, cells: &mut [u32], at: usize)
-        requires { at ≤ 75264 }
+        requires { at ≤ size.rule_cells }
         ensures { cells.new ≡ sets cells.old at (map cell (item_cells self)) };
 
     ghost wide: { (x : Self) → length (item_cells x) ≡ WIDTH };
@@ -176,7 +175,7 @@ fn put_number(cells: &mut [u32], at: usize, number: u64)
 
 // Four cells from `at` on.
 fn put_four(cells: &mut [u32], at: usize, a: u64, b: u64, c: u64, d: u64)
-    requires { at ≤ 75264 }
+    requires { at ≤ size.rule_cells }
     ensures { cells.new ≡ sets cells.old at (map cell (a ∷ b ∷ c ∷ d ∷ [])) }
 {
     put_number(cells, at, a);
@@ -244,7 +243,7 @@ impl Item for Head {
 
 // Items one after another, from `at` on.
 fn put_items<T: Item>(cells: &mut [u32], at: usize, items: &[T])
-    requires { at + T.WIDTH * length items.now ≤ 75264 }
+    requires { at + T.WIDTH * length items.now ≤ size.rule_cells }
     ensures { cells.new ≡ sets cells.old at (map cell (flat T.item_cells items.now)) }
 {
     for (i, item) in items.iter().enumerate() {
@@ -269,15 +268,27 @@ fn put_fixed(cells: &mut [u32], at: usize, rule: Rule, context: Option<u32>)
 
 // A rule and its context, as the row of this id.
 pub fn put_rule(cells: &mut [u32], id: usize, rule: Rule, context: Option<u32>)
-    requires { (id < 256) × ((rule.lengths.bindings ≤ 32) × ((rule.lengths.guards ≤ 32) × (rule.lengths.heads ≤ 16))) }
+    requires { (id < size.rules) × ((rule.lengths.bindings ≤ size.bindings) × ((rule.lengths.guards ≤ size.guards) × (rule.lengths.heads ≤ size.heads))) }
     ensures { cells.new ≡ put_rule cells.old id rule context }
 {
-    let at = ROW * id;
+    let at = sizes::RULE_ROW * id;
     let lengths = rule.lengths;
     put_fixed(cells, at, rule, context);
-    put_items(cells, at + 6, &rule.bindings[..lengths.bindings as usize]);
-    put_items(cells, at + 134, &rule.guards[..lengths.guards as usize]);
-    put_items(cells, at + 262, &rule.heads[..lengths.heads as usize]);
+    put_items(
+        cells,
+        at + sizes::RULE_BINDINGS,
+        &rule.bindings[..lengths.bindings as usize],
+    );
+    put_items(
+        cells,
+        at + sizes::RULE_GUARDS,
+        &rule.guards[..lengths.guards as usize],
+    );
+    put_items(
+        cells,
+        at + sizes::RULE_HEADS,
+        &rule.heads[..lengths.heads as usize],
+    );
 }
 
 // Where the j-th of things of one width begins; beyond the table, its end.
@@ -331,46 +342,55 @@ fn guard_of(kind: u32, a: u32, b: u32, c: u32) -> Guard
 }
 
 // A count, or what a row has room for.
-fn at_most(count: u32, room: u32) -> usize
+fn at_most(count: u32, room: usize) -> usize
     ensures { result ≡ min count room }
 {
-    count.min(room) as usize
+    (count as usize).min(room)
 }
 
 pub fn slots_at(cells: &[u32], id: usize) -> u64
     ensures { result ≡ slots_at cells.now id }
 {
-    let at = reach(cells.len(), ROW, id);
-    at_most(cells::cell_at(cells, at), 16) as u64
+    let at = reach(cells.len(), sizes::RULE_ROW, id);
+    at_most(cells::cell_at(cells, at), sizes::SLOTS) as u64
 }
 
 pub fn context_at(cells: &[u32], id: usize) -> Option<u32>
     ensures { result ≡ context_at cells.now id }
 {
-    let at = reach(cells.len(), ROW, id);
-    let marked = cells::cell_at(cells, at + 1) != 0;
-    marked.then_some(cells::cell_at(cells, at + 2))
+    let at = reach(cells.len(), sizes::RULE_ROW, id);
+    let marked = cells::cell_at(cells, at + sizes::RULE_MARK) != 0;
+    marked.then_some(cells::cell_at(cells, at + sizes::RULE_CONTEXT))
 }
 
 pub fn binding_count(cells: &[u32], id: usize) -> usize
     ensures { result ≡ binding_count cells.now id }
 {
-    let at = reach(cells.len(), ROW, id);
-    at_most(cells::cell_at(cells, at + 3), 32)
+    let at = reach(cells.len(), sizes::RULE_ROW, id);
+    at_most(
+        cells::cell_at(cells, at + sizes::RULE_LENGTHS),
+        sizes::BINDINGS,
+    )
 }
 
 pub fn guard_count(cells: &[u32], id: usize) -> usize
     ensures { result ≡ guard_count cells.now id }
 {
-    let at = reach(cells.len(), ROW, id);
-    at_most(cells::cell_at(cells, at + 4), 32)
+    let at = reach(cells.len(), sizes::RULE_ROW, id);
+    at_most(
+        cells::cell_at(cells, at + sizes::RULE_LENGTHS + 1),
+        sizes::GUARDS,
+    )
 }
 
 pub fn head_count(cells: &[u32], id: usize) -> usize
     ensures { result ≡ head_count cells.now id }
 {
-    let at = reach(cells.len(), ROW, id);
-    at_most(cells::cell_at(cells, at + 5), 16)
+    let at = reach(cells.len(), sizes::RULE_ROW, id);
+    at_most(
+        cells::cell_at(cells, at + sizes::RULE_LENGTHS + 2),
+        sizes::HEADS,
+    )
 }
 
 // Table and id stay two parameters here and above: a caller has an id, and a struct of the two would be made for each call.
@@ -379,7 +399,9 @@ pub fn head_count(cells: &[u32], id: usize) -> usize
 pub fn binding_at(cells: &[u32], id: usize, j: usize) -> Binding
     ensures { result ≡ binding_at cells.now id j }
 {
-    let at = reach(cells.len(), ROW, id) + 6 + reach(cells.len(), 4, j);
+    let at = reach(cells.len(), sizes::RULE_ROW, id)
+        + sizes::RULE_BINDINGS
+        + reach(cells.len(), 4, j);
     binding_of(
         cells::cell_at(cells, at),
         cells::cell_at(cells, at + 1),
@@ -391,7 +413,9 @@ pub fn binding_at(cells: &[u32], id: usize, j: usize) -> Binding
 pub fn guard_at(cells: &[u32], id: usize, j: usize) -> Guard
     ensures { result ≡ guard_at cells.now id j }
 {
-    let at = reach(cells.len(), ROW, id) + 134 + reach(cells.len(), 4, j);
+    let at = reach(cells.len(), sizes::RULE_ROW, id)
+        + sizes::RULE_GUARDS
+        + reach(cells.len(), 4, j);
     guard_of(
         cells::cell_at(cells, at),
         cells::cell_at(cells, at + 1),
@@ -403,7 +427,7 @@ pub fn guard_at(cells: &[u32], id: usize, j: usize) -> Guard
 pub fn head_at(cells: &[u32], id: usize, j: usize) -> Head
     ensures { result ≡ head_at cells.now id j }
 {
-    let at = reach(cells.len(), ROW, id) + 262 + reach(cells.len(), 2, j);
+    let at = reach(cells.len(), sizes::RULE_ROW, id) + sizes::RULE_HEADS + reach(cells.len(), 2, j);
     Head {
         argument: u64::from(cells::cell_at(cells, at)),
         value: u64::from(cells::cell_at(cells, at + 1)),

@@ -1,4 +1,5 @@
 -- What the answers of the two calls are, over plain variables: each way out of the tests, then each step behind them.
+use Rattle.sizes.specs.Sizes as size
 use Prim.Native.Nat.{ℕ, ◌<◌, ◌≤◌}
 use native.Mathlib.Omega.{arith}
 use mathlib.Core.Path.{◌≡◌, ◌∙◌}
@@ -30,7 +31,7 @@ use Rattle.seeds.specs.Seed.{sizes, spacious, Tables, tables, in_header, in_reco
 
 room_one : (c : Context) (standing : ℕ) → recordable c standing ≡ true → Room 1 c standing
 room_one None standing e = tt
-room_one (Some c) standing e = omega (arith, leb-true standing 1008 e)
+room_one (Some c) standing e = omega (arith, leb-true standing size.records_before_call e)
 
 -- what the test of the room gives the record that comes behind the charge
 pub room_left : (s : Store) {u : Store} → spacious s ≡ true → going tt u ≡ charged (work 1) s → (u.counts.positions ≤ 256) × Room 1 u.context u.counts.provenance
@@ -58,10 +59,10 @@ value_steps constants a k =
     (in_records (provenance a) >> in_rows (seed_constant constants a k))
 
 module _ (constants : List ℕ) (a k : ℕ) (s : Store) (t r : List ℕ) where
-  pub value_open : {x : Run Told Tables (Unit {0})} → length constants ≡ 2048 → sizes (length t) (length r) ≡ true → admits s.phase ≡ true → s.counts.constants ≤ 1024 → spacious s ≡ true →
+  pub value_open : {x : Run Told Tables (Unit {0})} → length constants ≡ size.constant_cells → sizes (length t) (length r) ≡ true → admits s.phase ≡ true → s.counts.constants ≤ 1024 → spacious s ≡ true →
       x ≡ value_steps constants a k (tables s t r) → x ≡ seed_value_call constants a k (tables s t r)
   unfolding seed_value_call
-  value_open n y g l e w = rw (eq-eqb (length constants) 2048 n, y, g, le-leb s.counts.constants 1024 l, e) w
+  value_open n y g l e w = rw (eq-eqb (length constants) size.constant_cells n, y, g, le-leb s.counts.constants 1024 l, e) w
 
   pub value_unpaid : {x : Told} {u : Store} → stopped x u ≡ charged (work 1) s → stopped x (tables u t r) ≡ value_steps constants a k (tables s t r)
   value_unpaid e = then_stop _ (tables s t r) _ (through_stop (λ t. t.header) (λ t u. tables u t.seeds t.records) (λ t u. tables u t.seeds t.records) (λ e. e) (charged (work 1)) (tables s t r) e)
@@ -117,10 +118,10 @@ interval_steps a low high =
     (in_tables (in_records (provenance a)) >> in_ends (seed_ends a low high))
 
 module _ (a : ℕ) (low high : ℤ) (s : Store) (t r : List ℕ) (h : List ℤ) where
-  pub interval_open : {x : Run Told IntervalTables (Unit {0})} → length h ≡ 4096 → sizes (length t) (length r) ≡ true → admits s.phase ≡ true → s.counts.thresholds ≤ 4088 → spacious s ≡ true →
+  pub interval_open : {x : Run Told IntervalTables (Unit {0})} → length h ≡ size.thresholds → sizes (length t) (length r) ≡ true → admits s.phase ≡ true → s.counts.thresholds ≤ size.thresholds_before_call → spacious s ≡ true →
       x ≡ interval_steps a low high (interval_tables s t r h) → x ≡ seed_interval_call a low high (interval_tables s t r h)
   unfolding seed_interval_call
-  interval_open n y g l e w = rw (eq-eqb (length h) 4096 n, y, g, le-leb s.counts.thresholds 4088 l, e) w
+  interval_open n y g l e w = rw (eq-eqb (length h) size.thresholds n, y, g, le-leb s.counts.thresholds size.thresholds_before_call l, e) w
 
   pub interval_unpaid : {x : Told} {u : Store} → stopped x u ≡ charged (work 1) s → stopped x (interval_tables u t r h) ≡ interval_steps a low high (interval_tables s t r h)
   interval_unpaid e = then_stop _ (interval_tables s t r h) _ (wide_header_stop s t r h (charged (work 1)) e)

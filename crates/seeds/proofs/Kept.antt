@@ -1,5 +1,6 @@
 -- What `seed_value` leaves of the seeds and of the header, whichever way it ends: accepted, all that holds of the seeds holds again; refused, the
 -- seeds and their counts are as they were, and with number 1 or 2 everything is.
+use Rattle.sizes.specs.Sizes as size
 use Prim.Native.Nat.{ℕ, ◌+◌, ◌-◌, ◌*◌, ◌^◌, ◌≤◌, ◌<◌}
 use native.Mathlib.Omega.{arith}
 use native.Mathlib.Nat.{min-le_left}
@@ -31,7 +32,8 @@ use Rattle.lattice.specs.Constants.{constant_at}
 use Rattle.lattice.specs.Lattice.{join}
 use Rattle.lattice.proofs.Joins.{joined_list, joined_value, join_is}
 use Rattle.lattice.proofs.LiveLaws.{constant_lives, join_lives}
-use Rattle.rows.specs.Row.{row, entries_of, value_at, put}
+use Rattle.sizes.specs.Sizes.{value_row}
+use Rattle.rows.specs.Row.{entries_of, value_at, put}
 use Rattle.rows.proofs.RowLaws.{size_is, length_put, put_back, put_other}
 use Rattle.store.specs.Store.{Context}
 use Rattle.std.proofs.Common.{None, Some}
@@ -122,7 +124,7 @@ pub record Joins (constants : List ℕ) (a : ℕ) (v : Value) (s : Store) (seeds
   pub others : (i : ℕ) → (i ≡ a → ⊥) → value_at seeds' i ≡ value_at seeds i
   pub size : length seeds' ≡ length seeds
 
-module _ (constants : List ℕ) (a : ℕ) (s : Store) (seeds : List ℕ) (stands : Standing constants s seeds) (inside : a < s.counts.positions) (room : row * s.counts.positions ≤ length seeds) where
+module _ (constants : List ℕ) (a : ℕ) (s : Store) (seeds : List ℕ) (stands : Standing constants s seeds) (inside : a < s.counts.positions) (room : value_row * s.counts.positions ≤ length seeds) where
   module _ (v : Value) (regular : Regular s.budget.limits.width s.counts.constants constants v) (b : Budget) (held : Bill (s.budget.statistics.entries + entries_of v) s.budget b) where
     join_regular : (new : Value) → new ≡ joined_value b.limits.width (value_at seeds a) v → Regular s.budget.limits.width s.counts.constants constants new
     join_regular new e =
@@ -203,7 +205,7 @@ noted_size a (Some c) n n' table table' h = ap length h.1 ∙ length-sets table 
 -- with room for one there is room for it
 pub noted_fits : (a : ℕ) (c : Context) (n n' : ℕ) (table table' : List ℕ) → Noted a c n table n' table' → recordable c n ≡ true → n ≤ 1024 → n' ≤ 1024
 noted_fits a None n n' table table' h r l = omega (arith, h.0)
-noted_fits a (Some c) n n' table table' h r l = omega (arith, h.0, leb-true n 1008 r)
+noted_fits a (Some c) n n' table table' h r l = omega (arith, h.0, leb-true n size.records_before_call r)
 
 -- a step that leaves the seeds alone
 pub record Notes (a : ℕ) (s : Store) (table : List ℕ) (s' : Store) (table' : List ℕ) : Type 0 where
@@ -298,7 +300,7 @@ module _ (constants : List ℕ) (a k : ℕ) (t : Tables) (stands : Standing cons
   early x = stops record { same = refl; quiet = wider (quiet_bill t.header (same_bill t.header.budget)); noted = inl (refl, refl); fits = λ l. l; whole = λ _. refl }
 
   module _ (b : Budget) (paid : Spent t.header.budget b) (exists : k < t.header.counts.constants) (few : t.header.counts.constants ≤ 1024) (space : recordable t.header.context t.header.counts.provenance ≡ true)
-      (room : row * t.header.counts.positions ≤ length t.seeds) where
+      (room : value_row * t.header.counts.positions ≤ length t.seeds) where
     abbrev once : Store
     once = with_budget b t.header
 
@@ -352,9 +354,9 @@ module _ (constants : List ℕ) (a k : ℕ) (t : Tables) (stands : Standing cons
   pub seed_value_kept : Ends (λ _ u. ValueTaken constants a k t u) (λ x u. ValueRefused a x t u) (seed_value_call constants a k t)
   unfolding seed_value_call
   seed_value_kept =
-      ends_test (eqb (length constants) 2048 && sizes (length t.seeds) (length t.records))
+      ends_test (eqb (length constants) size.constant_cells && sizes (length t.seeds) (length t.records))
       (λ e.
-      let z : length t.seeds ≡ row * 256 = eqb-true (length t.seeds) (row * 256) (and_left _ (eqb (length t.records) 2048) (and_right (eqb (length constants) 2048) _ e)) in
+      let z : length t.seeds ≡ size.argument_cells = eqb-true (length t.seeds) size.argument_cells (and_left _ (eqb (length t.records) size.record_cells) (and_right (eqb (length constants) size.constant_cells) _ e)) in
       ends_test (open? t.header)
       (λ _.
       ends_test (leb t.header.counts.constants 1024 && spacious t.header)

@@ -1,4 +1,5 @@
 -- What `seed_interval` leaves: as `seed_value`, and thresholds that rise still, with both ends among them where it is accepted.
+use Rattle.sizes.specs.Sizes as size
 use Prim.Native.Nat.{ℕ, ◌+◌, ◌*◌, ◌≤◌, ◌<◌}
 use native.Mathlib.Omega.{arith}
 use mathlib.Core.Path.{◌≡◌, refl, ap, ◌∙◌}
@@ -24,7 +25,8 @@ use Rattle.limits.proofs.Ends.{Ends, completes, stops, ends_as, ends_both, ends_
 use Rattle.interval.specs.declared.Interval.TheVariants.{Bounded}
 use Rattle.lattice.specs.Lattice.{numeric}
 use Rattle.lattice.proofs.Joins.{joined_value}
-use Rattle.rows.specs.Row.{row, value_at}
+use Rattle.sizes.specs.Sizes.{value_row}
+use Rattle.rows.specs.Row.{value_at}
 use Rattle.std.proofs.Common.{None}
 use Rattle.store.specs.declared.Store.{Store}
 use Rattle.store.specs.Store.{with_budget}
@@ -170,7 +172,7 @@ pub record IntervalTaken (constants : List ℕ) (a : ℕ) (low high : ℤ) (t t'
   pub fits : t.header.counts.provenance ≤ 1024 → t'.header.counts.provenance ≤ 1024
   -- both ends stand among the thresholds, with their neighbours
   pub marked : Marked (NearEither low high) t.header t.thresholds t'.header t'.thresholds
-  pub marks_fit : t.header.counts.thresholds ≤ 4094 → t'.header.counts.thresholds ≤ 4094
+  pub marks_fit : t.header.counts.thresholds ≤ size.thresholds_before_run → t'.header.counts.thresholds ≤ size.thresholds_before_run
   pub low_stands : Surrounded low (marks_of t'.header t'.thresholds)
   pub high_stands : Surrounded high (marks_of t'.header t'.thresholds)
   -- the ends ascend and the argument exists; its seed is joined with the interval, and the others are as they were
@@ -189,7 +191,7 @@ pub record IntervalRefused (a : ℕ) (low high : ℤ) (x : Told) (t t' : Interva
   pub noted : Noted a None t.header.counts.provenance t.records t'.header.counts.provenance t'.records ⊎ Noted a t.header.context t.header.counts.provenance t.records t'.header.counts.provenance t'.records
   pub fits : t.header.counts.provenance ≤ 1024 → t'.header.counts.provenance ≤ 1024
   pub marked : Marked (NearEither low high) t.header t.thresholds t'.header t'.thresholds
-  pub marks_fit : t.header.counts.thresholds ≤ 4094 → t'.header.counts.thresholds ≤ 4094
+  pub marks_fit : t.header.counts.thresholds ≤ size.thresholds_before_run → t'.header.counts.thresholds ≤ size.thresholds_before_run
   -- a store that is closed or has no room, and tables of another size, are left whole
   pub whole : x.number ≤ 2 → t' ≡ t
 
@@ -213,7 +215,7 @@ module _ (constants : List ℕ) (a : ℕ) (low high : ℤ) (t : IntervalTables) 
       record { same = refl; quiet = six (wider q); noted = inl (refl, refl); fits = λ l. l; marked = unmarked (with_budget b t.header) q.beside; marks_fit = λ l. l; whole = λ m. absurd (omega arith) }
 
   module _ (b : Budget) (paid : Spent t.header.budget b) (ascending : Le low high) (cells : t.header.counts.thresholds + 6 ≤ length t.thresholds) (space : recordable t.header.context t.header.counts.provenance ≡ true)
-      (few : t.header.counts.thresholds ≤ 4088) (room : row * t.header.counts.positions ≤ length t.seeds) where
+      (few : t.header.counts.thresholds ≤ size.thresholds_before_call) (room : value_row * t.header.counts.positions ≤ length t.seeds) where
     abbrev charged_once : Store
     charged_once = with_budget b t.header
 
@@ -322,16 +324,16 @@ module _ (constants : List ℕ) (a : ℕ) (low high : ℤ) (t : IntervalTables) 
   pub seed_interval_kept : Ends (λ _ u. IntervalTaken constants a low high t u) (λ x u. IntervalRefused a low high x t u) (seed_interval_call a low high t)
   unfolding seed_interval_call
   seed_interval_kept =
-      ends_test (eqb (length t.thresholds) 4096 && sizes (length t.seeds) (length t.records))
+      ends_test (eqb (length t.thresholds) size.thresholds && sizes (length t.seeds) (length t.records))
       (λ e.
-      let y : length t.thresholds ≡ 4096 = eqb-true (length t.thresholds) 4096 (and_left _ (sizes (length t.seeds) (length t.records)) e) in
-      let z : length t.seeds ≡ row * 256 = eqb-true (length t.seeds) (row * 256) (and_left _ (eqb (length t.records) 2048) (and_right (eqb (length t.thresholds) 4096) _ e)) in
+      let y : length t.thresholds ≡ size.thresholds = eqb-true (length t.thresholds) size.thresholds (and_left _ (sizes (length t.seeds) (length t.records)) e) in
+      let z : length t.seeds ≡ size.argument_cells = eqb-true (length t.seeds) size.argument_cells (and_left _ (eqb (length t.records) size.record_cells) (and_right (eqb (length t.thresholds) size.thresholds) _ e)) in
       ends_test (open? t.header)
       (λ _.
-      ends_test (leb t.header.counts.thresholds 4088 && spacious t.header)
+      ends_test (leb t.header.counts.thresholds size.thresholds_before_call && spacious t.header)
       (λ f.
-      let c : t.header.counts.thresholds ≤ 4088 = leb-true t.header.counts.thresholds 4088 (and_left _ (spacious t.header) f) in
-      let o : spacious t.header ≡ true = and_right (leb t.header.counts.thresholds 4088) _ f in
+      let c : t.header.counts.thresholds ≤ size.thresholds_before_call = leb-true t.header.counts.thresholds size.thresholds_before_call (and_left _ (spacious t.header) f) in
+      let o : spacious t.header ≡ true = and_right (leb t.header.counts.thresholds size.thresholds_before_call) _ f in
       let p : t.header.counts.positions ≤ 256 = leb-true t.header.counts.positions 256 (and_left _ (recordable t.header.context t.header.counts.provenance) o) in
       ends_then _ _ t
       (ends_through (λ w. tables w.header w.seeds w.records) (λ w u. interval_tables u.header u.seeds u.records w.thresholds) (λ w u. interval_tables u.header u.seeds u.records w.thresholds) (λ y. y)

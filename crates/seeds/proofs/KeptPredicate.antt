@@ -1,4 +1,5 @@
 -- What `predicate` leaves of the seeds: accepted, all that holds of them holds for the new arguments as well; refused, nothing is changed but work.
+use Rattle.sizes.specs.Sizes as size
 use Prim.Native.Nat.{ℕ, ◌+◌, ◌*◌, ◌≤◌, ◌<◌}
 use native.Mathlib.Omega.{arith}
 use mathlib.Core.Path.{◌≡◌, refl}
@@ -17,7 +18,8 @@ use Rattle.limits.specs.Metered.{stopped}
 use Rattle.limits.specs.Budget.{work}
 use Rattle.limits.proofs.Ends.{Ends, completes, stops, ends_as, ends_test, ends_then, ends_through}
 use Rattle.lattice.specs.Lattice.{bottom}
-use Rattle.rows.specs.Row.{row, value_at}
+use Rattle.sizes.specs.Sizes.{value_row}
+use Rattle.rows.specs.Row.{value_at}
 use Rattle.store.specs.declared.Store.{Store}
 use Rattle.store.specs.Store.{with_budget, with_predicate}
 use Rattle.store.specs.Calls.{open?, charged, declared, room_for, add_predicate, predicate_call}
@@ -76,11 +78,11 @@ module _ (constants : List ℕ) (arity : ℕ) (t : store.Tables) (stands : Stand
   work_bill : Bill t.header.budget.statistics.entries t.header.budget (billed Work 1 t.header.budget)
   work_bill = record { kin = record { limits = refl; predicates = refl; positions = refl; rounds = refl }; entries = refl; widened = refl }
 
-  module _ (rows : t.header.counts.predicates < 64) (fits : t.header.counts.positions + arity ≤ 256) (size : length t.seeds ≡ row * 256) where
+  module _ (rows : t.header.counts.predicates < 64) (fits : t.header.counts.positions + arity ≤ 256) (size : length t.seeds ≡ size.argument_cells) where
     added : (u : store.Tables) → u ≡ store.tables (with_budget (billed Work arity (billed Positions arity (billed Predicates 1 (billed Work 1 t.header.budget)))) t.header) t.rows t.seeds →
         Ends (λ id w. PredicateTaken constants arity id t w) (λ y w. PredicateRefused y t w) (add_predicate arity u)
     added u e =
-        let room : row * (t.header.counts.positions + arity) ≤ length t.seeds = omega arith in
+        let room : value_row * (t.header.counts.positions + arity) ≤ length t.seeds = omega arith in
         rw e
         (completes record {
           standing = record {
@@ -101,9 +103,9 @@ module _ (constants : List ℕ) (arity : ℕ) (t : store.Tables) (stands : Stand
   pub predicate_kept : Ends (λ id u. PredicateTaken constants arity id t u) (λ x u. PredicateRefused x t u) (predicate_call arity t)
   unfolding predicate_call
   predicate_kept =
-      ends_test (eqb (length t.rows) 128 && eqb (length t.seeds) (row * 256))
+      ends_test (eqb (length t.rows) size.predicate_cells && eqb (length t.seeds) size.argument_cells)
       (λ e.
-      let z : length t.seeds ≡ row * 256 = eqb-true (length t.seeds) (row * 256) (and_right (eqb (length t.rows) 128) _ e) in
+      let z : length t.seeds ≡ size.argument_cells = eqb-true (length t.seeds) size.argument_cells (and_right (eqb (length t.rows) size.predicate_cells) _ e) in
       ends_test (open? t.header)
       (λ _.
       ends_test (room_for t.header.counts.predicates t.header.counts.positions arity)

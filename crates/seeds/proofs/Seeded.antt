@@ -33,7 +33,8 @@ use Rattle.lattice.specs.Value.{Value, value}
 use Rattle.lattice.specs.Constants.{constant_of, constant_at, Retained}
 use Rattle.lattice.specs.Lattice.{bottom, numeric, retained, constant}
 use Rattle.lattice.proofs.Joins.{joined_list, joined_value}
-use Rattle.rows.specs.Row.{row, entries_of, value_at, put}
+use Rattle.sizes.specs.Sizes.{value_row}
+use Rattle.rows.specs.Row.{entries_of, value_at, put}
 use Rattle.rows.specs.WellFormed.{Proper, Short, WellFormed}
 use Rattle.rows.proofs.RowLaws.{length_put, put_back, put_other}
 use Rattle.rows.proofs.Formed.{proper_hull}
@@ -275,7 +276,7 @@ lost_step width (some x) (some y) =
 
 -- ---- one seed is another
 
-module _ (positions : ℕ) (seeds : List ℕ) (a : ℕ) (v : Value) (inside : a < positions) (size : row * positions ≤ length seeds) where
+module _ (positions : ℕ) (seeds : List ℕ) (a : ℕ) (v : Value) (inside : a < positions) (size : value_row * positions ≤ length seeds) where
   back : WellFormed v → value_at (put seeds a v) a ≡ v
   back w = put_back seeds a v (omega arith) w
 
@@ -326,7 +327,7 @@ unfolding bottoms
 bottoms_old seeds from zero i l = refl
 bottoms_old seeds from (suc n) i l = put_other (bottoms seeds from n) (from + n) bottom i (λ e. omega arith) ∙ bottoms_old seeds from n i l
 
-pub bottoms_new : (seeds : List ℕ) (from n i : ℕ) → row * (from + n) ≤ length seeds → from ≤ i → i < from + n → value_at (bottoms seeds from n) i ≡ bottom
+pub bottoms_new : (seeds : List ℕ) (from n i : ℕ) → value_row * (from + n) ≤ length seeds → from ≤ i → i < from + n → value_at (bottoms seeds from n) i ≡ bottom
 unfolding bottoms
 bottoms_new seeds from zero i h l m = absurd (omega arith)
 bottoms_new seeds from (suc n) i h l m = elim (ℕ_discrete i (from + n)) [
@@ -339,7 +340,7 @@ bottoms_new seeds from (suc n) i h l m = elim (ℕ_discrete i (from + n)) [
     below : (i ≡ from + n → ⊥) → i < from + n
     below d = elim (dec_lt i (from + n)) [ yes k ↦ k | no k ↦ absurd (d (omega arith)) ]
 
-module _ (seeds : List ℕ) (positions arity : ℕ) (size : row * (positions + arity) ≤ length seeds) where
+module _ (seeds : List ℕ) (positions arity : ℕ) (size : value_row * (positions + arity) ≤ length seeds) where
   pub seeded_bottoms : (width k : ℕ) (constants : List ℕ) → Seeded width k positions constants seeds → Seeded width k (positions + arity) constants (bottoms seeds positions arity)
   seeded_bottoms width k constants h = record {
     at = λ i l. elim (dec_lt i positions) [

@@ -1,5 +1,6 @@
 -- `Input::seed_value` and `Input::seed_interval`, on the header and the lent tables as they stand.
 use Rattle.std.specs.Prelude.{ℕ, ◌+◌, ◌*◌, Bool, true, false, cond, ◌&&◌, List, leb, ltb, eqb, ℤ, length}
+use Rattle.sizes.specs.Sizes as size
 use Rattle.std.proofs.Math.Option.{Option, some, none}
 use Rattle.std.specs.Int.Signed.{le_z}
 use Rattle.limits.specs.declared.Stop.{Stop}
@@ -13,7 +14,7 @@ use Rattle.interval.specs.declared.Interval.TheVariants.{Bounded}
 use Rattle.lattice.specs.Value.{Value}
 use Rattle.lattice.specs.Constants.{constant_at}
 use Rattle.lattice.specs.Lattice.{constant, numeric, join}
-use Rattle.rows.specs.Row.{row, entries_of, value_at, put}
+use Rattle.rows.specs.Row.{entries_of, value_at, put}
 use Rattle.thresholds.specs.Thresholds.{around}
 use Rattle.store.specs.declared.Store.{Store}
 use Rattle.store.specs.Calls.{unless, open?, charged, Marks, marks, entering}
@@ -52,11 +53,11 @@ seed a v t = (paying (joined (value_at t.seeds a) v) >>= (λ new u. going tt (ro
 -- ---- refusals 1 and 2, of both calls
 
 abbrev pub sizes : ℕ → ℕ → Bool
-sizes seeds records = eqb seeds (row * 256) && eqb records 2048
+sizes seeds records = eqb seeds size.argument_cells && eqb records size.record_cells
 
 -- more rows than the tables have meet 2 as well
 abbrev pub spacious : Store → Bool
-spacious s = leb s.counts.positions 256 && recordable s.context s.counts.provenance
+spacious s = leb s.counts.positions size.positions && recordable s.context s.counts.provenance
 
 -- ---- `seed_value`
 
@@ -87,9 +88,9 @@ seed_constant constants a k = paying (constant_value constants k) >>= seed a
 
 unfoldable pub seed_value_call : List ℕ → ℕ → ℕ → Metered Told Tables (Unit {0})
 seed_value_call constants a k =
-    unless (λ t. eqb (length constants) 2048 && sizes (length t.seeds) (length t.records)) Shape
+    unless (λ t. eqb (length constants) size.constant_cells && sizes (length t.seeds) (length t.records)) Shape
     (unless (λ t. open? t.header) Closed
-    (unless (λ t. leb t.header.counts.constants 1024 && spacious t.header) Full
+    (unless (λ t. leb t.header.counts.constants size.constants && spacious t.header) Full
     (in_header (charged (work 1)) >>
     unless (λ t. ltb k t.header.counts.constants) Missing
     (in_records (provenance a) >> in_rows (seed_constant constants a k)))))
@@ -133,9 +134,9 @@ in_ends = zoom (λ t. ends t.header t.seeds t.thresholds) (λ e t. interval_tabl
 -- "`seed_interval` charges 1 work, rejects low > high, then records provenance, then thresholds, then joins."
 unfoldable pub seed_interval_call : ℕ → ℤ → ℤ → Metered Told IntervalTables (Unit {0})
 seed_interval_call a low high =
-    unless (λ t. eqb (length t.thresholds) 4096 && sizes (length t.seeds) (length t.records)) Shape
+    unless (λ t. eqb (length t.thresholds) size.thresholds && sizes (length t.seeds) (length t.records)) Shape
     (unless (λ t. open? t.header) Closed
-    (unless (λ t. leb t.header.counts.thresholds 4088 && spacious t.header) Full
+    (unless (λ t. leb t.header.counts.thresholds size.thresholds_before_call && spacious t.header) Full
     (in_tables (in_header (charged (work 1))) >>
     unless (λ t. le_z low high) Descending
     (in_tables (in_records (provenance a)) >> in_ends (seed_ends a low high)))))

@@ -89,14 +89,14 @@ fn seed_constant(
 fn is_sized(seeds: usize, records: usize) -> bool
     ensures { result ≡ sizes seeds records }
 {
-    seeds == rows::ROW * 256 && records == 2 * provenance::RECORDS
+    seeds == sizes::ARGUMENT_CELLS && records == sizes::RECORD_CELLS
 }
 
 // Whether the tables have the rows that the header counts, and room for what a call records.
 fn has_room(store: &Store) -> bool
     ensures { result ≡ spacious store.now }
 {
-    store.counts.positions <= 256
+    store.counts.positions <= sizes::POSITIONS
         && provenance::is_recordable(store.context, store.counts.provenance)
 }
 
@@ -112,13 +112,13 @@ pub fn seed_value(
 ) -> Result<(), Refusal>
     ensures { replied result (tables store.new seeds.new records.new) ≡ seed_value_call constants.now argument value (tables store.old seeds.old records.old) }
 {
-    if constants.len() != 2048 || !is_sized(seeds.len(), records.len()) {
+    if constants.len() != sizes::CONSTANT_CELLS || !is_sized(seeds.len(), records.len()) {
         return Err(Refusal::Shape);
     }
     if !store.phase.admits() {
         return Err(Refusal::Closed);
     }
-    if 1024 < store.counts.constants || !has_room(store) {
+    if sizes::CONSTANTS < store.counts.constants || !has_room(store) {
         return Err(Refusal::Full);
     }
     store.pay(Resource::Work, 1)?;
@@ -168,13 +168,13 @@ pub fn seed_interval(
 ) -> Result<(), Refusal>
     ensures { replied result (interval_tables store.new seeds.new records.new thresholds.new) ≡ seed_interval_call argument low high (interval_tables store.old seeds.old records.old thresholds.old) }
 {
-    if thresholds.len() != 4096 || !is_sized(seeds.len(), records.len()) {
+    if thresholds.len() != sizes::THRESHOLDS || !is_sized(seeds.len(), records.len()) {
         return Err(Refusal::Shape);
     }
     if !store.phase.admits() {
         return Err(Refusal::Closed);
     }
-    if 4088 < store.counts.thresholds || !has_room(store) {
+    if sizes::THRESHOLDS_BEFORE_CALL < store.counts.thresholds || !has_room(store) {
         return Err(Refusal::Full);
     }
     store.pay(Resource::Work, 1)?;

@@ -23,7 +23,8 @@ use Rattle.lattice.specs.declared.Widening.TheVariants.{Dependency}
 use Rattle.lattice.specs.Value.{Value, value}
 use Rattle.lattice.specs.Lattice.{top, copied, meet, refine}
 use Rattle.lattice.proofs.LiveLaws.{meet_lives, refine_lives, copied_lives}
-use Rattle.rows.specs.Row.{row, list_of, entries_of, value_at, put}
+use Rattle.sizes.specs.Sizes.{value_row}
+use Rattle.rows.specs.Row.{list_of, entries_of, value_at, put}
 use Rattle.rows.specs.WellFormed.{Proper, WellFormed}
 use Rattle.rows.proofs.RowLaws.{size_is, length_put, put_back, put_other}
 use Rattle.rows.proofs.Good.{Good, meet_good, refine_good, copied_good, top_good}
@@ -46,7 +47,7 @@ module _ (rows : List ℕ) (slot : ℕ) (v : Value) where
   total_before n h = total_same rows (put rows slot v) n (λ i l. put_other rows slot v i (λ e. omega arith))
 
   -- one value in the place of another
-  pub total_put : (n : ℕ) → slot < n → row * n ≤ length rows → WellFormed v → total (put rows slot v) n + entries_of (value_at rows slot) ≡ total rows n + entries_of v
+  pub total_put : (n : ℕ) → slot < n → value_row * n ≤ length rows → WellFormed v → total (put rows slot v) n + entries_of (value_at rows slot) ≡ total rows n + entries_of v
   unfolding total
   total_put zero l r w = absurd (omega arith)
   total_put (suc n) l r w = elim (ℕ_discrete slot n) [
@@ -81,11 +82,11 @@ abbrev pub Formed : List ℕ → Type 0
 Formed rows = (i : ℕ) → Good (value_at rows i)
 
 pub record Held (n e : ℕ) (s : Slots) : Type 0 where
-  pub room : row * n ≤ length s.rows
+  pub room : value_row * n ≤ length s.rows
   pub formed : Formed s.rows
   pub live : s.meter.entries ≡ e + total s.rows n
 
-pub formed_put : (rows : List ℕ) (slot : ℕ) (v : Value) → row * slot + row ≤ length rows → Good v → Formed rows → Formed (put rows slot v)
+pub formed_put : (rows : List ℕ) (slot : ℕ) (v : Value) → value_row * slot + value_row ≤ length rows → Good v → Formed rows → Formed (put rows slot v)
 formed_put rows slot v r w f i = elim (ℕ_discrete i slot) [
   | yes e ↦ rw (e, put_back rows slot v r w.formed) w
   | no d ↦ rw (put_other rows slot v i d) (f i)
@@ -217,7 +218,7 @@ module _ {n : ℕ} where
 -- ---- a table that is filled: k rows stand, and there is room for all
 
 -- one row more; the entries of its value are live
-pub held_more : {k e : ℕ} {m m' : Meter} {rows : List ℕ} (v : Value) → row * (k + 1) ≤ length rows → Good v → Held k e (slots m rows) → m'.entries ≡ m.entries + entries_of v →
+pub held_more : {k e : ℕ} {m m' : Meter} {rows : List ℕ} (v : Value) → value_row * (k + 1) ≤ length rows → Good v → Held k e (slots m rows) → m'.entries ≡ m.entries + entries_of v →
     Held (k + 1) e (slots m' (put rows k v))
 unfolding total
 held_more {k} {rows = rows} v r w h q =
@@ -229,19 +230,19 @@ held_more {k} {rows = rows} v r w h q =
     }
 
 -- tops have no entries
-pub tops_ends : (k n e : ℕ) (s : Slots) → row * (k + n) ≤ length s.rows → Held k e s →
+pub tops_ends : (k n e : ℕ) (s : Slots) → value_row * (k + n) ≤ length s.rows → Held k e s →
     Ends (λ _ t. Held (k + n) e t) (λ _ t. t.meter.entries ≡ s.meter.entries) (tops k n s)
 unfolding tops
 tops_ends k zero e s r h = ends_pure tt s (rw (add-zero k) h)
 tops_ends k (suc n) e s r h =
     let q : k + suc n ≡ k + 1 + n = omega arith in
     rw q
-    (ends_then {P = λ _ t. Held (k + 1) e t × (row * (k + 1 + n) ≤ length t.rows) × (t.meter.entries ≡ s.meter.entries)} {Q = λ _ t. t.meter.entries ≡ s.meter.entries} (step (putting k (top None))) (tops (k + 1) n) s (one k n e s r h)
+    (ends_then {P = λ _ t. Held (k + 1) e t × (value_row * (k + 1 + n) ≤ length t.rows) × (t.meter.entries ≡ s.meter.entries)} {Q = λ _ t. t.meter.entries ≡ s.meter.entries} (step (putting k (top None))) (tops (k + 1) n) s (one k n e s r h)
     (λ _ t p. ends_as (tops_ends (k + 1) n e t p.1 p.0) (λ _ u z. z) (λ _ u z. z ∙ p.2))
     (λ _ t p. p))
   where
-    one : (k n e : ℕ) (s : Slots) → row * (k + suc n) ≤ length s.rows → Held k e s →
-        Ends (λ _ t. Held (k + 1) e t × (row * (k + 1 + n) ≤ length t.rows) × (t.meter.entries ≡ s.meter.entries)) (λ _ t. t.meter.entries ≡ s.meter.entries) (step (putting k (top None)) s)
+    one : (k n e : ℕ) (s : Slots) → value_row * (k + suc n) ≤ length s.rows → Held k e s →
+        Ends (λ _ t. Held (k + 1) e t × (value_row * (k + 1 + n) ≤ length t.rows) × (t.meter.entries ≡ s.meter.entries)) (λ _ t. t.meter.entries ≡ s.meter.entries) (step (putting k (top None)) s)
     one k n e s r h =
         ends_then {P = λ _ t. (t.rows ≡ s.rows) × Held k e t} {Q = λ _ t. (t.rows ≡ s.rows) × Held k e t} (paying (work 1)) (putting k (top None)) s (work_ends s h)
         (λ _ t p.
@@ -268,7 +269,7 @@ module _ (domains : List ℕ) (bound : ℕ) (formed : (j : ℕ) → j < bound �
       (λ v t q. q)
       (λ _ t q. omega (arith, q.1, h.live, ap (λ (l : List ℕ). total l k) q.0))
 
-  pub copies_ends : (k n e : ℕ) → k + n ≤ bound → (s : Slots) → row * (k + n) ≤ length s.rows → Held k e s → Ends (λ _ t. Held (k + n) e t) (λ _ t. t.meter.entries ≡ e) (copies domains k n s)
+  pub copies_ends : (k n e : ℕ) → k + n ≤ bound → (s : Slots) → value_row * (k + n) ≤ length s.rows → Held k e s → Ends (λ _ t. Held (k + n) e t) (λ _ t. t.meter.entries ≡ e) (copies domains k n s)
   unfolding copies
   copies_ends k zero e l s r h = ends_pure tt s (rw (add-zero k) h)
   copies_ends k (suc n) e l s r h =
@@ -276,12 +277,12 @@ module _ (domains : List ℕ) (bound : ℕ) (formed : (j : ℕ) → j < bound �
       rw q
       (ends_bind (holding_rows k (paying (copied (value_at domains k)))) (λ v. putting k v >> copies domains (k + 1) n) s (copy_ends k e (omega arith) s h)
       (λ v t p.
-      ends_then {P = λ _ u. Held (k + 1) e u × (row * (k + 1 + n) ≤ length u.rows)} {Q = λ _ u. u.meter.entries ≡ e} (putting k v) (copies domains (k + 1) n) t
+      ends_then {P = λ _ u. Held (k + 1) e u × (value_row * (k + 1 + n) ≤ length u.rows)} {Q = λ _ u. u.meter.entries ≡ e} (putting k v) (copies domains (k + 1) n) t
       (completes (more k n e s r h v t p))
       (λ _ u z. copies_ends (k + 1) n e (omega arith) u z.1 z.0)
       (λ _ u z. z))
       (λ _ t p. p))
     where
-      more : (k n e : ℕ) (s : Slots) → row * (k + suc n) ≤ length s.rows → Held k e s → (v : Value) (t : Slots) → Good v × (t.rows ≡ s.rows) × (t.meter.entries ≡ s.meter.entries + entries_of v) →
-          Held (k + 1) e (slots t.meter (put t.rows k v)) × (row * (k + 1 + n) ≤ length (put t.rows k v))
+      more : (k n e : ℕ) (s : Slots) → value_row * (k + suc n) ≤ length s.rows → Held k e s → (v : Value) (t : Slots) → Good v × (t.rows ≡ s.rows) × (t.meter.entries ≡ s.meter.entries + entries_of v) →
+          Held (k + 1) e (slots t.meter (put t.rows k v)) × (value_row * (k + 1 + n) ≤ length (put t.rows k v))
       more k n e s r h v t p = rw p.1 (held_more v (omega arith) p.0 h p.2, omega (arith, length_put s.rows k v))

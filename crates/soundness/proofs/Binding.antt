@@ -26,7 +26,8 @@ use Rattle.std.specs.Prelude.{None, Some}
 use Rattle.lattice.specs.Value.{Value, value}
 use Rattle.lattice.specs.Lattice.{top, numeric, meet}
 use Rattle.lattice.proofs.Tidiness.{Tidy, numeric_tidy, meet_tidy}
-use Rattle.rows.specs.Row.{row, value_at, put}
+use Rattle.sizes.specs.Sizes.{value_row}
+use Rattle.rows.specs.Row.{value_at, put}
 use Rattle.rows.specs.WellFormed.{WellFormed, Proper as ProperEnds}
 use Rattle.rows.proofs.RowLaws.{length_put, put_back, put_other}
 use Rattle.rows.proofs.Formed.{meet_formed, top_formed, numeric_formed}
@@ -62,7 +63,7 @@ pub record Good (w : Scene) (slot : ℕ) (v : Value) : Type 0 where
 
 -- the first n rows are such, in a table that has them
 pub record Held (w : Scene) (n : ℕ) (rows : List ℕ) : Type 0 where
-  pub room : row * n ≤ length rows
+  pub room : value_row * n ≤ length rows
   pub good : (s : ℕ) → s < n → Good w s (value_at rows s)
 
 pub held_slots : {w : Scene} {n : ℕ} {rows : List ℕ} → Held w n rows → SlotsIn w n rows
@@ -151,7 +152,7 @@ good_top w slot = record {
 }
 
 -- one row more
-pub held_more : (w : Scene) (k : ℕ) (rows : List ℕ) (v : Value) → Held w k rows → row * (k + 1) ≤ length rows → Good w k v → Held w (k + 1) (put rows k v)
+pub held_more : (w : Scene) (k : ℕ) (rows : List ℕ) (v : Value) → Held w k rows → value_row * (k + 1) ≤ length rows → Good w k v → Held w (k + 1) (put rows k v)
 held_more w k rows v h r g = record {
   room = rw (length_put rows k v) r;
   good = λ s m.
@@ -166,7 +167,7 @@ held_more w k rows v h r g = record {
     below : (s : ℕ) → (s ≡ k → ⊥) → s < k + 1 → s < k
     below s e m = elim (dec_lt s k) [ yes h ↦ h | no h ↦ absurd (e (omega arith)) ]
 
-pub tops_held : (w : Scene) (k n : ℕ) (s : Slots) → Held w k s.rows → row * (k + n) ≤ length s.rows → Ends (λ _ t. Held w (k + n) t.rows) (λ _ _. Unit {0}) (tops k n s)
+pub tops_held : (w : Scene) (k n : ℕ) (s : Slots) → Held w k s.rows → value_row * (k + n) ≤ length s.rows → Ends (λ _ t. Held w (k + n) t.rows) (λ _ _. Unit {0}) (tops k n s)
 unfolding tops
 tops_held w k zero s h r = ends_pure tt s (subst (λ (i : ℕ). Held w i s.rows) (omega arith) h)
 tops_held w k (suc n) s h r =
@@ -326,7 +327,7 @@ module _ (w : Scene) (expressions n width : ℕ) (arguments : List ℕ) (count :
         (keeps_each (meet_binding over) bs (choices_all (λ b. Keeps (Held w n) (meet_binding over b)) binding_keeps bs ch pch inside holds)))
 
     -- a firing whose bindings hold stays inside the slots' values
-    pub bind_sound : (s : Slots) → row * n ≤ length s.rows → Ends (λ _ t. Held w n t.rows) (λ _ _. Unit {0}) (bindings.bind over arguments n bs s)
+    pub bind_sound : (s : Slots) → value_row * n ≤ length s.rows → Ends (λ _ t. Held w n t.rows) (λ _ _. Unit {0}) (bindings.bind over arguments n bs s)
     unfolding bindings.bind
     bind_sound s room =
         ends_then {P = λ _ t. Held w n t.rows} {Q = λ _ _. Unit {0}} (tops 0 n) (holding_rows n (passes over arguments bs)) s

@@ -1,4 +1,5 @@
 -- A store that is not open: every call that builds one is turned down and changes nothing.
+use Rattle.sizes.specs.Sizes as size
 use Prim.Native.Nat.{ℕ, ◌*◌}
 use native.Mathlib.Omega.{arith}
 use mathlib.Core.Path.{◌≡◌, refl, sym, ap, ◌∙◌}
@@ -6,8 +7,6 @@ use mathlib.Core.Bool.{true, false, ◌&&◌}
 use lib.Dec.{eqb, leb}
 use lib.ListN.{length}
 use Rattle.limits.proofs.Ends.{Ends, stops, ends_test}
-use Rattle.rows.specs.Row.{row}
-use Rattle.nodes.specs.Node as nodes
 use Rattle.store.specs.Calls.{open?, context_call, work_call, argument_call, predicate_call}
 use Rattle.constants.specs.Constant.{bytes_of, constant_call}
 use Rattle.constants.specs.Constant as constants
@@ -29,23 +28,23 @@ module _ (t : Tables) (shut : open? t.header ≡ false) where
   closed_idle (work n) = on_ends_lem (λ u. u.header) with_header (λ _. done) (work_call n) t (ends_test (open? t.header) (λ h. absurd (never h)) (λ _. stops refl)) (λ _ _ h. h) (λ _ u h. ap (λ s. with_header s t) h)
   closed_idle (predicate arity) =
       on_ends_lem for_predicate from_predicate id (predicate_call arity) t
-      (ends_test (eqb (length t.predicates) 128 && eqb (length t.seeds) (row * 256)) (λ _. ends_test (open? t.header) (λ h. absurd (never h)) (λ _. stops refl)) (λ _. stops refl)) (λ _ _ h. h) (λ _ u h. ap (λ s. from_predicate s t) h)
+      (ends_test (eqb (length t.predicates) size.predicate_cells && eqb (length t.seeds) size.argument_cells) (λ _. ends_test (open? t.header) (λ h. absurd (never h)) (λ _. stops refl)) (λ _. stops refl)) (λ _ _ h. h) (λ _ u h. ap (λ s. from_predicate s t) h)
   closed_idle (argument p i) =
       on_ends_lem (λ u. u.header) with_header id (argument_call p i t.predicates) t
-      (ends_test (eqb (length t.predicates) 128) (λ _. ends_test (open? t.header) (λ h. absurd (never h)) (λ _. stops refl)) (λ _. stops refl)) (λ _ _ h. h) (λ _ u h. ap (λ s. with_header s t) h)
+      (ends_test (eqb (length t.predicates) size.predicate_cells) (λ _. ends_test (open? t.header) (λ h. absurd (never h)) (λ _. stops refl)) (λ _. stops refl)) (λ _ _ h. h) (λ _ u h. ap (λ s. with_header s t) h)
   closed_idle (constant k) =
       on_ends_lem for_constant from_constant id (constant_call k) t
       (ends_test (constants.sizes (length t.names) (length t.constants) (length t.order) (length t.thresholds))
       (λ _. ends_test (leb (length (bytes_of k)) 64) (λ _. ends_test (open? t.header) (λ h. absurd (never h)) (λ _. stops refl)) (λ _. stops refl)) (λ _. stops refl)) (λ _ _ h. h) (λ _ u h. ap (λ s. from_constant s t) h)
   closed_idle (expression e) =
       on_ends_lem for_expression from_expression id (expression_call e) t
-      (ends_test (eqb (length t.nodes) (nodes.row * 1024)) (λ _. ends_test (supported e) (λ _. ends_test (open? t.header) (λ h. absurd (never h)) (λ _. stops refl)) (λ _. stops refl)) (λ _. stops refl)) (λ _ _ h. h) (λ _ u h. ap (λ s. from_expression s t) h)
+      (ends_test (eqb (length t.nodes) size.node_cells) (λ _. ends_test (supported e) (λ _. ends_test (open? t.header) (λ h. absurd (never h)) (λ _. stops refl)) (λ _. stops refl)) (λ _. stops refl)) (λ _ _ h. h) (λ _ u h. ap (λ s. from_expression s t) h)
   closed_idle (seed_value a k) =
       on_ends_lem for_value from_value (λ _. done) (seed_value_call t.constants a k) t
-      (ends_test (eqb (length t.constants) 2048 && seeds.sizes (length t.seeds) (length t.records)) (λ _. ends_test (open? t.header) (λ h. absurd (never h)) (λ _. stops refl)) (λ _. stops refl)) (λ _ _ h. h) (λ _ u h. ap (λ s. from_value s t) h)
+      (ends_test (eqb (length t.constants) size.constant_cells && seeds.sizes (length t.seeds) (length t.records)) (λ _. ends_test (open? t.header) (λ h. absurd (never h)) (λ _. stops refl)) (λ _. stops refl)) (λ _ _ h. h) (λ _ u h. ap (λ s. from_value s t) h)
   closed_idle (seed_interval a low high) =
       on_ends_lem for_interval from_interval (λ _. done) (seed_interval_call a low high) t
-      (ends_test (eqb (length t.thresholds) 4096 && seeds.sizes (length t.seeds) (length t.records)) (λ _. ends_test (open? t.header) (λ h. absurd (never h)) (λ _. stops refl)) (λ _. stops refl)) (λ _ _ h. h) (λ _ u h. ap (λ s. from_interval s t) h)
+      (ends_test (eqb (length t.thresholds) size.thresholds && seeds.sizes (length t.seeds) (length t.records)) (λ _. ends_test (open? t.header) (λ h. absurd (never h)) (λ _. stops refl)) (λ _. stops refl)) (λ _ _ h. h) (λ _ u h. ap (λ s. from_interval s t) h)
   closed_idle (rule r) =
       on_ends_lem for_rule from_rule id (rule_call t.nodes r) t
       (ends_test (producers.sizes (length t.nodes) (length t.rules) (length t.records)) (λ _. ends_test (shapely r) (λ _. ends_test (open? t.header) (λ h. absurd (never h)) (λ _. stops refl)) (λ _. stops refl)) (λ _. stops refl)) (λ _ _ h. h)

@@ -9,7 +9,8 @@ use Rattle.integers.specs.Lists.{All}
 use Rattle.limits.proofs.Monad.{Ensures}
 use Rattle.limits.proofs.Ends.{Ends, ends_then, ends_through}
 use Rattle.lattice.proofs.Tidiness.{Tidy}
-use Rattle.rows.specs.Row.{row, value_at}
+use Rattle.sizes.specs.Sizes.{value_row}
+use Rattle.rows.specs.Row.{value_at}
 use Rattle.rows.specs.WellFormed.{WellFormed}
 use Rattle.rules.specs.Read.{slots_at, bindings_at, guards_at}
 use Rattle.producers.specs.Producer.{scope}
@@ -49,7 +50,7 @@ module _ (w : Scene) (expressions count width : ℕ) (arguments : List ℕ) (t :
       (bind : AllHold (BindingHolds w.opaque (Among w arguments) w.slots) (into 0 ch) (map (binding_of w.tree) (bindings_at rules id)))
       (guard : AllHold (GuardHolds w.opaque w.slots) (into 1 ch) (map (guard_of w.tree) (guards_at rules id))) where
     -- a rule keeps every firing that satisfies it
-    pub rule_sound : (s : Frame) → row * slots_at rules id ≤ length s.domains → row * slots_at rules id ≤ length s.produced →
+    pub rule_sound : (s : Frame) → value_row * slots_at rules id ≤ length s.domains → value_row * slots_at rules id ≤ length s.produced →
         Ends (λ k u. Fired w (slots_at rules id) k u) (λ _ _. Unit {0}) (rule over rules id arguments s)
     unfolding rule guarding
     rule_sound s rd rp =

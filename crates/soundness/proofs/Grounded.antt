@@ -9,7 +9,8 @@ use lib.ListN.{length}
 use Rattle.integers.specs.Lists.{All}
 use Rattle.limits.specs.Metered.{Run, going}
 use Rattle.limits.proofs.Ends.{Ends, completes, stops, ends_as, ends_both}
-use Rattle.rows.specs.Row.{row, value_at}
+use Rattle.sizes.specs.Sizes.{value_row}
+use Rattle.rows.specs.Row.{value_at}
 use Rattle.rows.specs.WellFormed.{Short}
 use Rattle.rows.proofs.Good.{Good}
 use Rattle.lattice.proofs.Joins.{Small}
@@ -159,7 +160,7 @@ module _ {p : Accepted} {t : Tables} (g : Grounded p t) (o : Opaque) (values : L
       short (some l) s = s.0
 
   module _ (e : ℕ) where
-    copy_room : (s : Slots) → row * n ≤ length s.rows → Formed s.rows → s.meter.entries ≡ e →
+    copy_room : (s : Slots) → value_row * n ≤ length s.rows → Formed s.rows → s.meter.entries ≡ e →
         Ends (λ _ u. (u.meter.entries ≡ e + total u.rows n) × (Room n u.rows × Same t.seeds n u.rows)) (λ _ u. u.meter.entries ≡ e) (copies t.seeds 0 n s)
     unfolding total
     copy_room s r f q =
@@ -172,7 +173,7 @@ module _ {p : Accepted} {t : Tables} (g : Grounded p t) (o : Opaque) (values : L
         all u h m = let z : 0 + n ≡ n = omega arith in (rw z at h.live, ((omega (arith, h.room), h.formed), λ j l. m j (omega arith)))
 
     -- one step
-    image_step : (a : ℕ) (k : Key) → Stepped o p Among' a k → (s : Standing) → row * n ≤ length s.rows → Formed s.rows → s.budget.statistics.entries ≡ e →
+    image_step : (a : ℕ) (k : Key) → Stepped o p Among' a k → (s : Standing) → value_row * n ≤ length s.rows → Formed s.rows → s.budget.statistics.entries ≡ e →
         Ends (λ _ u. Stands (rows_of n) e u × Has (key_of p) t.constants n a k u.rows) (λ _ u. u.budget.statistics.entries ≡ e) (image run values s)
     image_step a k (seeded h) s r f q =
         let i = g.seeds a k h in
@@ -191,7 +192,7 @@ module _ {p : Accepted} {t : Tables} (g : Grounded p t) (o : Opaque) (values : L
         (apply_gives (stage j) values valued room.1 st.id st.below (fires j a k h) a w.0 k w.1 (given_by j a k h)) u x y) s r f q
 
     -- all of them
-    pub image_sound : (s : Standing) → row * n ≤ length s.rows → Formed s.rows → s.budget.statistics.entries ≡ e →
+    pub image_sound : (s : Standing) → value_row * n ≤ length s.rows → Formed s.rows → s.budget.statistics.entries ≡ e →
         Ends (λ _ u. Stands (rows_of n) e u × (Room n u.rows × ((a : ℕ) (k : Key) → Stepped o p Among' a k → Inside p t u.rows a k))) (λ _ u. u.budget.statistics.entries ≡ e) (image run values s)
     image_sound s r f q =
         ends_as

@@ -28,7 +28,7 @@ use Rattle.lattice.specs.Lattice.{copied, refine}
 use Rattle.lattice.proofs.Copies.{copied_is}
 use Rattle.lattice.proofs.Tidiness.{refine_tidy}
 use Rattle.rows.specs.Row.{value_at, put}
-use Rattle.rows.specs.Row as rows
+use Rattle.sizes.specs.Sizes.{value_row}
 use Rattle.rows.specs.WellFormed.{Proper as ProperEnds}
 use Rattle.rows.proofs.RowLaws.{length_put}
 use Rattle.rows.proofs.Formed.{refine_formed, proper_meet}
@@ -40,7 +40,8 @@ use Rattle.producers.specs.Producer.{Scope, scope}
 use Rattle.producers.proofs.Scoped.{Scoped, GuardIn, scoped_there}
 use Rattle.slots.specs.Slots.{Slots, slots, holding_rows, putting, refine_into, copies}
 use Rattle.slots.specs.Slots as on_slots
-use Rattle.refinements.specs.Refinement.{row, refinement_at, refinements_of, put_refinement, integer?, position, Notes, notes, noted, note}
+use Rattle.sizes.specs.Sizes.{refinement_row}
+use Rattle.refinements.specs.Refinement.{refinement_at, refinements_of, put_refinement, integer?, position, Notes, notes, noted, note}
 use Rattle.refinements.proofs.Theorems.{length_refinement, refinement_back, refinement_kept}
 use Rattle.operators.specs.Arithmetic.{span}
 use Rattle.evaluation.specs.Evaluation.{Input, known_identity}
@@ -64,7 +65,7 @@ use Rattle.soundness.proofs.Affine.{related_numbers, compares_flipped, restricte
 
 -- the first k refinements hold in the firing, in a table that has them
 pub record Known (w : Scene) (k : ℕ) (table : List ℕ) : Type 0 where
-  pub room : row * k ≤ length table
+  pub room : refinement_row * k ≤ length table
   pub holds : (j : ℕ) → j < k → Holds w (refinement_at table j)
 
 known_from : (w : Scene) (table : List ℕ) (j n : ℕ) → ((i : ℕ) → i < j + n → Holds w (refinement_at table i)) → All (Holds w) (from (refinement_at table) j n)
@@ -76,7 +77,7 @@ pub known_all : {w : Scene} {k : ℕ} {table : List ℕ} → Known w k table →
 known_all {w} {k} {table} h = known_from w table 0 k (λ i l. h.holds i (omega arith))
 
 -- one more, or another in the place of one
-known_put : (w : Scene) (k p id : ℕ) (i : Interval) (table : List ℕ) (k' : ℕ) → Known w k table → p < k' → row * k' ≤ length table → ((j : ℕ) → j < k' → (j ≡ p → ⊥) → j < k) → id < 2 ^ 32 → ProperEnds i →
+known_put : (w : Scene) (k p id : ℕ) (i : Interval) (table : List ℕ) (k' : ℕ) → Known w k table → p < k' → refinement_row * k' ≤ length table → ((j : ℕ) → j < k' → (j ≡ p → ⊥) → j < k) → id < 2 ^ 32 → ProperEnds i →
     Holds w (record { expression = id; restriction = i }) → Known w k' (put_refinement table p id i)
 known_put w k p id i table k' h l r old s q g = record {
   room = rw (length_refinement table p id i) r;
@@ -118,9 +119,9 @@ module _ (w : Scene) (k id : ℕ) (i : Interval) (s : id < 2 ^ 32) (q : ProperEn
       let m = meets t.table p l h (f.hit l) in
       completes (known_put w k p id (meet_of (refinement_at t.table p).restriction i) t.table k h l h.room (λ j a _. a) s m.proper m))
       (λ e.
-      ends_test (ltb p (length t.table / row))
+      ends_test (ltb p (length t.table / refinement_row))
       (λ d.
-      let l : p < length t.table / row = ltb-true p (length t.table / row) d in
+      let l : p < length t.table / refinement_row = ltb-true p (length t.table / refinement_row) d in
       let b : k ≤ p = not_below e in
       completes (known_put w k p id i t.table (k + 1) h (omega (arith, f.within)) (omega (arith, f.within)) (λ j a n. below j a n f.within b) s q g))
       (λ _. completes h))
@@ -353,7 +354,7 @@ module _ (w : Scene) (small : All (λ c. c < 2 ^ 32) w.constants) (expressions n
 
 -- ---- the values before guards, copied
 
-pub copies_held : (w : Scene) (domains : List ℕ) (m k n : ℕ) → k + n ≤ m → Held w m domains → (s : Slots) → Held w k s.rows → rows.row * (k + n) ≤ length s.rows →
+pub copies_held : (w : Scene) (domains : List ℕ) (m k n : ℕ) → k + n ≤ m → Held w m domains → (s : Slots) → Held w k s.rows → value_row * (k + n) ≤ length s.rows →
     Ends (λ _ t. Held w (k + n) t.rows) (λ _ _. Unit {0}) (copies domains k n s)
 unfolding copies
 copies_held w domains m k zero l d s h r = ends_pure tt s (subst (λ (i : ℕ). Held w i s.rows) (omega arith) h)
@@ -379,7 +380,7 @@ copies_held w domains m k (suc n) l d s h r =
 module _ (w : Scene) (small : All (λ c. c < 2 ^ 32) w.constants) (expressions n width : ℕ) (few : expressions ≤ 2 ^ 32) (domains : List ℕ) (gs : List Guard) (ch : Choice) (pch : ProperChoice ch)
     (inside : All (GuardIn (scope w.nodes expressions n)) gs) (holds : AllHold (GuardHolds w.opaque w.slots) ch (map (guard_of w.tree) gs)) where
   -- a firing whose guards hold stays inside the slots' values after guards
-  pub guards_keep : (s : Local) → Held w n domains → rows.row * n ≤ length s.produced →
+  pub guards_keep : (s : Local) → Held w n domains → value_row * n ≤ length s.produced →
       Fitting w n (guards.guard (record { nodes = w.nodes; constants = w.constants; width = width }) domains n gs) s
   unfolding guards.guard guard_all
   guards_keep s d room =

@@ -1,4 +1,5 @@
 -- A run on a store that calls have reached is taken; it completes, or stops with 3 (work), 8 (links), 9 (live entries) or 10 (rounds).
+use Rattle.sizes.specs.Sizes as size
 use Prim.Native.Nat.{ℕ, zero, suc, ◌+◌, ◌-◌, ◌*◌}
 use native.Mathlib.Omega.{arith}
 use mathlib.Core.Path.{◌≡◌, refl, ap, ◌∙◌}
@@ -28,12 +29,11 @@ use Rattle.interval.specs.Interval.{endpoints_of}
 use Rattle.search.specs.Seek.{Place, found, absent}
 use Rattle.thresholds.specs.Thresholds.{against, seek_number, insert, cost, settle, enter}
 use Rattle.lattice.specs.Value.{Value}
-use Rattle.rows.specs.Row.{row, value_at}
+use Rattle.rows.specs.Row.{value_at}
 use Rattle.store.specs.declared.Phase.{Phase}
 use Rattle.store.specs.declared.Phase.TheVariants.{Absent, Open, Completed, Stopped}
 use Rattle.store.specs.Store.{empty, fresh_of}
 use Rattle.rules.specs.declared.Head.{Head}
-use Rattle.rules.specs.Rule as rules
 use Rattle.rules.specs.Read.{slots_at, heads_at}
 use Rattle.slots.specs.Slots.{Slots}
 use Rattle.evaluation.specs.Evaluation.{Input}
@@ -307,23 +307,23 @@ abbrev pub lent : input.Tables → List ℕ → List ℕ → Tables
 lent t arguments slots = tables t.header t.thresholds arguments slots
 
 module _ (t : input.Tables) (reached : Reached t) (opened : t.header.phase ≡ Open)
-    (arguments slots : List ℕ) (wide : length arguments ≡ row * 256) (long : length slots ≡ 32768) where
+    (arguments slots : List ℕ) (wide : length arguments ≡ size.argument_cells) (long : length slots ≡ size.bounds_cells) where
   -- it is not turned down
   pub run_taken : run_call (given t) (lent t arguments slots) ≡ going tt (ran_on (given t) (lent t arguments slots))
   unfolding run_call
   run_taken =
       rw (
-        eq-eqb (length t.nodes) 5120 reached.sized.nodes,
-        eq-eqb (length t.constants) 2048 reached.sized.constants,
-        eq-eqb (length t.rules) (rules.row * 256) reached.sized.rules,
-        eq-eqb (length t.seeds) (row * 256) reached.sized.seeds,
-        eq-eqb (length t.thresholds) 4096 reached.sized.thresholds,
-        eq-eqb (length arguments) (row * 256) wide,
-        eq-eqb (length slots) 32768 long,
+        eq-eqb (length t.nodes) size.node_cells reached.sized.nodes,
+        eq-eqb (length t.constants) size.constant_cells reached.sized.constants,
+        eq-eqb (length t.rules) size.rule_cells reached.sized.rules,
+        eq-eqb (length t.seeds) size.argument_cells reached.sized.seeds,
+        eq-eqb (length t.thresholds) size.thresholds reached.sized.thresholds,
+        eq-eqb (length arguments) size.argument_cells wide,
+        eq-eqb (length slots) size.bounds_cells long,
         opened,
         le-leb t.header.counts.positions 256 reached.counted.positions,
         le-leb t.header.counts.rules 256 reached.counted.rules,
-        le-leb t.header.counts.thresholds 4094 reached.counted.thresholds,
+        le-leb t.header.counts.thresholds size.thresholds_before_run reached.counted.thresholds,
       )
       refl
 
@@ -359,7 +359,7 @@ fresh_ready l t e z = record { reached = fresh_reached l t e z; opened = go (leb
 
 -- whatever calls came before, answered or refused: the run of a fresh store is taken, and completes or stops with 3, 8, 9 or 10
 pub played_halts : (l : Limits) (t : input.Tables) → fresh_of l ≡ going tt t.header → Sized t → (cs : List Call) → All Typed cs →
-    (arguments slots : List ℕ) → length arguments ≡ row * 256 → length slots ≡ 32768 →
+    (arguments slots : List ℕ) → length arguments ≡ size.argument_cells → length slots ≡ size.bounds_cells →
     let u = played t cs in Ends (λ _ v. EndsWell v.header.phase) (λ _ _. ⊥) (run_call (given u) (lent u arguments slots))
 played_halts l t e z cs h arguments slots wide long =
     let r = played_ready cs h t (fresh_ready l t e z) in run_halts (played t cs) r.reached r.opened arguments slots wide long

@@ -45,7 +45,8 @@ use Rattle.rules.specs.declared.Guard.{Guard}
 use Rattle.rules.specs.declared.Guard.TheVariants.{Compare, Membership}
 use Rattle.rules.specs.Read.{slots_at, bindings_at, guards_at}
 use Rattle.slots.specs.Slots.{Slots, settled, replace, meet_into, meet_owned, refine_into, step, each, tops, meet_argument, mark_dependent, copies}
-use Rattle.refinements.specs.Refinement.{Refinement, row, refinements_of, integer?, narrow, restrict, position, noted, note}
+use Rattle.sizes.specs.Sizes.{refinement_row}
+use Rattle.refinements.specs.Refinement.{Refinement, refinements_of, integer?, narrow, restrict, position, noted, note}
 use Rattle.operators.specs.Arithmetic.{empty?, difference?}
 use Rattle.evaluation.specs.Evaluation.{Input, known_node, known_in, known_identity, combined, after_one, after_two, evaluate_node, evaluate_in, expression, Values, both}
 use Rattle.bindings.specs.Bindings.{assigned, aggregate, spanning, ranged, meeting, meet_binding, passes, bind}
@@ -274,7 +275,7 @@ position_halts k [] id = halts_pure k
 position_halts k (r ∷ rs) id = halts_then (works 1) (halts_test (eqb r.expression id) (halts_pure k) (position_halts (k + 1) rs id))
 
 noted_halts : (n id : ℕ) (i : Interval) (k : ℕ) → Frugal (noted n id i k)
-noted_halts n id i k = record { at = λ s. ends_test (ltb k n) (λ _. completes tt) (λ _. ends_test (ltb k (length s.table / row)) (λ _. completes tt) (λ _. completes tt)) }
+noted_halts n id i k = record { at = λ s. ends_test (ltb k n) (λ _. completes tt) (λ _. ends_test (ltb k (length s.table / refinement_row)) (λ _. completes tt) (λ _. completes tt)) }
 
 note_halts : (n id : ℕ) (i : Interval) → Frugal (note n id i)
 unfolding note

@@ -1,4 +1,5 @@
 -- No call that builds a store changes its phase.
+use Rattle.sizes.specs.Sizes as size
 use mathlib.Core.Path.{◌≡◌, refl, ap}
 use mathlib.Core.Bool.{◌&&◌}
 use lib.Dec.{eqb, ltb}
@@ -36,7 +37,7 @@ module _ (t : Tables) (r : Reached t) where
       on_ends_lem for_predicate from_predicate id (predicate_call arity) t (predicate_kept t.constants arity (for_predicate t) r.standing) (λ _ u p. ap (λ (x : Store). x.phase) p.header) (λ _ _ _. tt)
   call_phase (argument p i) h =
       on_ends_lem (λ u. u.header) with_header id {P = λ _ s. s.phase ≡ t.header.phase} {Q = λ _ _. Unit {0}} (argument_call p i t.predicates) t
-      (ends_test (eqb (length t.predicates) 128)
+      (ends_test (eqb (length t.predicates) size.predicate_cells)
       (λ _.
       ends_test (open? t.header)
       (λ _.

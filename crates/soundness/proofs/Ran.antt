@@ -1,5 +1,6 @@
 -- A run of a store whose tables hold what the accepted calls have said. Completed: its live entries are those of the lists that it reports, and
 -- whatever the plain run reaches lies in what it reports. Stopped: live entries are those of the seeds, and no result is written.
+use Rattle.sizes.specs.Sizes as size
 use Prim.Native.Nat.{ℕ, zero, suc, ◌+◌, ◌*◌, ◌≤◌}
 use native.Mathlib.Omega.{arith}
 use native.Mathlib.Decide.{ℕ_discrete}
@@ -15,7 +16,8 @@ use Rattle.integers.proofs.Stores.{all_take}
 use Rattle.limits.specs.declared.Stop.{Stop}
 use Rattle.limits.specs.Metered.{Run}
 use Rattle.limits.proofs.Ends.{Ends, completes, stops, ends_as}
-use Rattle.rows.specs.Row.{row, entries_of, value_at}
+use Rattle.sizes.specs.Sizes.{value_row}
+use Rattle.rows.specs.Row.{entries_of, value_at}
 use Rattle.keys.specs.Key.{Key}
 use Rattle.thresholds.specs.Thresholds.{entry}
 use Rattle.store.specs.Store.{Context}
@@ -104,7 +106,7 @@ module _ {p : Accepted} {t : input.Tables} (g : Grounded p t) where
     ended : u.header.phase ≡ Completed → u.header.counts.positions ≡ n → u.header.budget.statistics.entries ≡ total u.arguments n → ((o : Opaque) → Holds o u.arguments) → Ran s u
     halted : {e : Stop} {c : Context} → u.header.phase ≡ Stopped e c → u.header.budget.statistics.entries ≡ total t.seeds n → u.arguments ≡ s.arguments → u.slots ≡ s.slots → Ran s u
 
-  module _ (numbers : All Number t.thresholds) (few : t.header.counts.thresholds + 2 ≤ length t.thresholds) (arguments slots : List ℕ) (size : row * n ≤ length arguments) where
+  module _ (numbers : All Number t.thresholds) (few : t.header.counts.thresholds + 2 ≤ length t.thresholds) (arguments slots : List ℕ) (size : value_row * n ≤ length arguments) where
     abbrev lent : Tables
     lent = tables t.header t.thresholds arguments slots
 
@@ -130,11 +132,11 @@ module _ {p : Accepted} {t : input.Tables} (g : Grounded p t) where
     unfolding ran_on
     ran_sound =
         go _
-        (begin_ends t.seeds n (seeds_good g some_opaque blank blank_room) e (beginning (entry t.header.budget t.header.counts.thresholds t.thresholds) blank (replicate 512 0)) g.reached.rises numbers few
-        blank_room.0 (blank_formed (row * 256)) refl)
+        (begin_ends t.seeds n (seeds_good g some_opaque blank blank_room) e (beginning (entry t.header.budget t.header.counts.thresholds t.thresholds) blank (replicate size.growth_cells 0)) g.reached.rises numbers few
+        blank_room.0 (blank_formed size.argument_cells) refl)
       where
         blank_room : Room n blank
-        blank_room = (rw (length-replicate {A = ℕ} (row * 256) 0) (omega (arith, g.reached.counted.positions)), blank_formed (row * 256))
+        blank_room = (rw (length-replicate {A = ℕ} size.argument_cells 0) (omega (arith, g.reached.counted.positions)), blank_formed size.argument_cells)
 
         go : (x : Run Stop Beginning (Unit {0})) →
             Ends (λ _ b. Sown t.seeds n e b.entry.budget.statistics.entries b.current × Ended (entry t.header.budget t.header.counts.thresholds t.thresholds) b.entry) (λ _ b. b.entry.budget.statistics.entries ≡ e) x →
@@ -142,7 +144,7 @@ module _ {p : Accepted} {t : input.Tables} (g : Grounded p t) where
         go x (completes {a = a} {s = b} h) =
             let th = take b.entry.count b.entry.table in
             let all = all_take Number b.entry.count b.entry.table h.1.marks.numbers in
-            let at = progress b.entry.budget t.header.context b.current b.growth (replicate 32768 0) in
+            let at = progress b.entry.budget t.header.context b.current b.growth (replicate size.bounds_cells 0) in
             conclude_sound th all b.entry.count b.entry.table _
             (ends_all (λ o _ u. Holds o u.current) (finish_sound th all e some_opaque at h.0) (λ o. ends_as (finish_sound th all e o at h.0) (λ _ u q. q.holds) (λ _ _ _. tt)))
         go x (stops h) = halted refl (h ∙ seeds_live) refl refl

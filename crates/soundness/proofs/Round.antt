@@ -16,7 +16,8 @@ use Rattle.limits.specs.Meter.{work}
 use Rattle.limits.proofs.Monad.{Ensures, weaken, both, for_all}
 use Rattle.limits.proofs.Ends.{Ends, completes, stops, ends_as, ends_both, in_some_way, on_then}
 use Rattle.lattice.specs.Value.{Value}
-use Rattle.rows.specs.Row.{row, value_at, put}
+use Rattle.sizes.specs.Sizes.{value_row}
+use Rattle.rows.specs.Row.{value_at, put}
 use Rattle.rows.proofs.RowLaws.{length_put, put_back, put_other}
 use Rattle.rows.proofs.Good.{Good, join_good}
 use Rattle.keys.specs.Key.{Key}
@@ -147,7 +148,7 @@ module _ {t : Tables} (g : Stage t) (previous : List ℕ) (valued : Valued t pre
       (rule (over t) t.rules id previous) (blank m) (in_some_way (work 1 m))
       (λ _ n _.
       stored_rule g previous valued id l fires t.header.budget.limits.width (frame n (blank m).domains (blank m).produced (blank m).refinements)
-      (rw (length-replicate {A = ℕ} (row * 16) 0) (omega arith)) (rw (length-replicate {A = ℕ} (row * 16) 0) (omega arith)))
+      (rw (length-replicate {A = ℕ} (value_row * 16) 0) (omega arith)) (rw (length-replicate {A = ℕ} (value_row * 16) 0) (omega arith)))
       (λ _ _ _. tt))
     where
       go : {x : Run Stop Frame ℕ} → Ends (λ k u. Fired (scene_of g) (slots_at t.rules id) k u) (λ _ _. Unit {0}) x → Ends (λ s _. Kept s) (λ _ _. Unit {0}) (locals_of x)

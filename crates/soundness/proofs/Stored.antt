@@ -10,7 +10,8 @@ use Rattle.integers.specs.Lists.{All}
 use Rattle.limits.proofs.Monad.{Ensures}
 use Rattle.limits.proofs.Ends.{Ends}
 use Rattle.lattice.proofs.Tidiness.{Tidy}
-use Rattle.rows.specs.Row.{row, value_at}
+use Rattle.sizes.specs.Sizes.{value_row}
+use Rattle.rows.specs.Row.{value_at}
 use Rattle.rows.specs.WellFormed.{WellFormed}
 use Rattle.keys.specs.Key.{Key}
 use Rattle.rules.specs.declared.Head.{Head}
@@ -99,7 +100,7 @@ module _ {t : Tables} (g : Stage t) (arguments : List ℕ) (v : Valued t argumen
 
     -- where all bindings and guards hold for values in the arguments, the slots' values lie in what `rule` gives
     pub stored_rule : Fires g.opaque (Among (scene_of g) arguments) g.choices (map (binding_of g.tree) (bindings_at t.rules id)) (map (guard_of g.tree) (guards_at t.rules id)) →
-        (width : ℕ) (s : Frame) → row * 16 ≤ length s.domains → row * 16 ≤ length s.produced →
+        (width : ℕ) (s : Frame) → value_row * 16 ≤ length s.domains → value_row * 16 ≤ length s.produced →
         Ends (λ k u. Fired (scene_of g) (slots_at t.rules id) k u) (λ _ _. Unit {0}) (rule (input t.nodes t.constants width) t.rules id arguments s)
     stored_rule fires width s d p =
         rule_sound (scene_of g) t.header.counts.expressions t.header.counts.positions width arguments setting t.rules id g.choices.choice record { at = g.choices.proper_choice }

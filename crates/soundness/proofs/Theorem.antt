@@ -1,5 +1,6 @@
 -- Demand 3: `sound`. A list of calls is played from a fresh store; as long as it is open its tables hold what the accepted calls have said, and
 -- from the run on nothing more is said and the results stay.
+use Rattle.sizes.specs.Sizes as size
 use Prim.Native.Nat.{ℕ, ◌*◌, ◌≤◌, ◌<◌}
 use native.Mathlib.Omega.{arith}
 use mathlib.Core.Path.{◌≡◌, refl, sym, ap, subst, ◌∙◌}
@@ -18,7 +19,7 @@ use Rattle.limits.specs.Refusal.{Told, told}
 use Rattle.limits.specs.Metered.{Run, going, stopped}
 use Rattle.limits.proofs.Ends.{Ends, completes, stops, ends_as, ends_test, ends_both}
 use Rattle.lattice.specs.Value.{Value}
-use Rattle.rows.specs.Row.{row, value_at}
+use Rattle.rows.specs.Row.{value_at}
 use Rattle.keys.specs.Key.{Key, name}
 use Rattle.keys.specs.Key as keys
 use Rattle.store.specs.declared.Phase.{Phase}
@@ -74,7 +75,7 @@ pub data Stands (p : Accepted) (s : State) : Type 0 where
 
 reads : (s : State) (a : ℕ) (v : Value) → (step (argument a) s).answer ≡ value v → (s.tables.header.phase ≡ Completed) × (v ≡ value_at s.arguments a)
 unfolding step argument_reading
-reads s a v = go (eqb (length s.arguments) (row * 256)) s.tables.header.phase refl (ltb a s.tables.header.counts.positions)
+reads s a v = go (eqb (length s.arguments) size.argument_cells) s.tables.header.phase refl (ltb a s.tables.header.counts.positions)
   where
     go : (b : Bool) (ph : Phase) → s.tables.header.phase ≡ ph → (c : Bool) →
         (on_reading value s (cond b (in_phase ph (there c (value_at s.arguments a))) (reading.refused (told Shape)))).answer ≡ value v → (s.tables.header.phase ≡ Completed) × (v ≡ value_at s.arguments a)
@@ -172,9 +173,9 @@ module _ (ties : (c : input.Call) → input.Typed c → (p : Accepted) (t : inpu
         ran : sizes (length s.tables.nodes) (length s.tables.constants) (length s.tables.rules) (length s.tables.seeds) (length s.tables.thresholds) && result_sizes (length s.arguments) (length s.slots) ≡ true →
             spacious s.tables.header.counts ≡ true → Ran (ground p s.tables tied) (for_run s) (ran_on tables (for_run s))
         ran z q =
-            let wide : length s.arguments ≡ row * 256 = eqb-true (length s.arguments) (row * 256) (and_left _ (eqb (length s.slots) 32768) (and_right (sizes (length s.tables.nodes) (length s.tables.constants) (length s.tables.rules) (length s.tables.seeds) (length s.tables.thresholds)) _ z)) in
-            let few : s.tables.header.counts.thresholds ≤ 4094 =
-            leb-true s.tables.header.counts.thresholds 4094 (and_right (leb s.tables.header.counts.rules 256) _ (and_right (leb s.tables.header.counts.positions 256) _ q)) in
+            let wide : length s.arguments ≡ size.argument_cells = eqb-true (length s.arguments) size.argument_cells (and_left _ (eqb (length s.slots) size.bounds_cells) (and_right (sizes (length s.tables.nodes) (length s.tables.constants) (length s.tables.rules) (length s.tables.seeds) (length s.tables.thresholds)) _ z)) in
+            let few : s.tables.header.counts.thresholds ≤ size.thresholds_before_run =
+            leb-true s.tables.header.counts.thresholds size.thresholds_before_run (and_right (leb s.tables.header.counts.rules 256) _ (and_right (leb s.tables.header.counts.positions 256) _ q)) in
             ran_sound (ground p s.tables tied) tied.numbers (omega (arith, tied.reached.sized.thresholds)) s.arguments s.slots (omega (arith, tied.reached.counted.positions))
 
         go : (x : Run Told engine.Tables (Unit {0})) → Ends (λ _ u. Ran (ground p s.tables tied) (for_run s) u) (λ _ u. u ≡ for_run s) x → Stands p (on_run s x).after
@@ -281,6 +282,6 @@ sound o l s z cs h fs a k x v m = sound_from call_ties (λ p t. grounded) o fs a
 
 -- ---- and it is never empty talk: after a completed run a reading of an argument that exists is not refused
 
-pub read_completed : (s : State) (a : ℕ) → s.tables.header.phase ≡ Completed → length s.arguments ≡ row * 256 → a < s.tables.header.counts.positions → (step (argument a) s).answer ≡ value (value_at s.arguments a)
+pub read_completed : (s : State) (a : ℕ) → s.tables.header.phase ≡ Completed → length s.arguments ≡ size.argument_cells → a < s.tables.header.counts.positions → (step (argument a) s).answer ≡ value (value_at s.arguments a)
 unfolding step argument_reading
-read_completed s a p q l = rw (eq-eqb (length s.arguments) (row * 256) q, p, lt-ltb a s.tables.header.counts.positions l) refl
+read_completed s a p q l = rw (eq-eqb (length s.arguments) size.argument_cells q, p, lt-ltb a s.tables.header.counts.positions l) refl

@@ -1,4 +1,5 @@
 -- What the tables of a store hold of the accepted calls grounds a run, and the calls of `constant` and `expression` keep it so.
+use Rattle.sizes.specs.Sizes as size
 use Prim.Native.Nat.{ℕ, ◌+◌, ◌*◌, ◌≤◌, ◌<◌, ◌^◌}
 use native.Mathlib.Omega.{arith}
 use native.Mathlib.Decide.{dec_lt, ℕ_discrete}
@@ -34,7 +35,8 @@ use Rattle.keys.specs.Key.{Key, name, kind_at, payload_at, name_at, key_at}
 use Rattle.keys.specs.Key as keys
 use Rattle.nodes.specs.declared.Expression.{Expression}
 use Rattle.nodes.specs.declared.Expression.TheVariants.{Constant, Slot, Unary, Absolute, Binary, Unknown}
-use Rattle.nodes.specs.Node.{row, expression_at}
+use Rattle.sizes.specs.Sizes.{node_row}
+use Rattle.nodes.specs.Node.{expression_at}
 use Rattle.nodes.proofs.NodeLaws.{Below}
 use Rattle.rules.specs.declared.Binding.{Binding}
 use Rattle.rules.specs.declared.Binding.TheVariants.{Positive, Assign, Range, Aggregate}
@@ -454,7 +456,7 @@ share_answers n e t c = on_bind _ _ _ _ _ (expressions.settle e) t (charged_coun
 expression_answers_lem : (e : Expression) (t : expressions.Tables) → Ends (Answered t.header.counts.expressions) (λ _ _. Unit {0}) (expression_call e t)
 unfolding expression_call
 expression_answers_lem e t =
-    ends_test (eqb (length t.nodes) (row * 1024))
+    ends_test (eqb (length t.nodes) size.node_cells)
     (λ _.
     ends_test (supported e)
     (λ _.
@@ -505,14 +507,14 @@ module _ (n : ℕ) (tree more : ℕ → Tree) (same : (j : ℕ) → j < n → mo
 module _ {p q : Accepted} {t w : Tables} (r : Reached t) (same : (j : ℕ) → j < t.header.counts.expressions → tree_at q j ≡ tree_at p j) (rules : w.rules ≡ t.rules) (count : w.header.counts.rules ≡ t.header.counts.rules) where
   pub stored_trees : (x : PlainRule) → Stored p t x → Stored q w x
   stored_trees x h =
-      let row = r.rules.at h.id h.below in
+      let node_row = r.rules.at h.id h.below in
       rw rules
       record {
         id = h.id;
         below = omega (arith, h.below, count);
-        bindings = h.bindings ∙ map_same _ _ _ (binding_trees _ (tree_at p) (tree_at q) same _ _ refl) (bindings_at t.rules h.id) (bindings_inside row);
-        guards = h.guards ∙ map_same _ _ _ (guard_trees _ (tree_at p) (tree_at q) same 0 _ refl) (guards_at t.rules h.id) (guards_inside row);
-        heads = h.heads ∙ map_same _ _ _ (head_trees _ (tree_at p) (tree_at q) same _ _ refl) (heads_at t.rules h.id) (heads_inside row);
+        bindings = h.bindings ∙ map_same _ _ _ (binding_trees _ (tree_at p) (tree_at q) same _ _ refl) (bindings_at t.rules h.id) (bindings_inside node_row);
+        guards = h.guards ∙ map_same _ _ _ (guard_trees _ (tree_at p) (tree_at q) same 0 _ refl) (guards_at t.rules h.id) (guards_inside node_row);
+        heads = h.heads ∙ map_same _ _ _ (head_trees _ (tree_at p) (tree_at q) same _ _ refl) (heads_at t.rules h.id) (heads_inside node_row);
       }
 
 -- ---- `expression`: an accepted call

@@ -1,4 +1,5 @@
 -- The calls that give no id to a constant or an expression keep the ties: `context`, `work`, `argument`, `predicate`, the seeds and `rule`.
+use Rattle.sizes.specs.Sizes as size
 use Prim.Native.Nat.{ℕ, ◌+◌, ◌^◌, ◌≤◌, ◌<◌}
 use native.Mathlib.Omega.{arith}
 use native.Mathlib.Decide.{ℕ_discrete}
@@ -132,7 +133,7 @@ unfolding call argument_call
 argument_ties q i p t h =
     leads_ties p (input.argument q i) t h (argument_keeps q i t h.reached)
     (on_ends_lem (λ u. u.header) with_header id {P = λ _ s. s.counts ≡ t.header.counts} {Q = λ _ _. Unit {0}} (argument_call q i t.predicates) t
-    (ends_test (eqb (length t.predicates) 128)
+    (ends_test (eqb (length t.predicates) size.predicate_cells)
     (λ _.
     ends_test (open? t.header)
     (λ _.
@@ -320,11 +321,11 @@ module _ (a : ℕ) (low high : ℤ) (l : Number low) (g : Number high) where
   interval_numbered : (t : seeds.IntervalTables) → All Number t.thresholds → Ends (λ _ u. All Number u.thresholds) (λ _ u. All Number u.thresholds) (seed_interval_call a low high t)
   unfolding seed_interval_call
   interval_numbered t h =
-      ends_test (eqb (length t.thresholds) 4096 && seeds.sizes (length t.seeds) (length t.records))
+      ends_test (eqb (length t.thresholds) size.thresholds && seeds.sizes (length t.seeds) (length t.records))
       (λ _.
       ends_test (open? t.header)
       (λ _.
-      ends_test (leb t.header.counts.thresholds 4088 && seeds.spacious t.header)
+      ends_test (leb t.header.counts.thresholds size.thresholds_before_call && seeds.spacious t.header)
       (λ _.
       ends_then _ _ t (tables_numbered (seeds.in_header (charged (work 1))) t h)
       (λ _ u k.

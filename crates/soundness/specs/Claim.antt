@@ -1,6 +1,7 @@
 -- Demand 3 as one statement over whole lists of calls. 01: "A number lies in a bound whose interval has it (Unbounded has all), a name in a Mixed
 -- one; a value lies in a list that has the id of a constant with that key."
 use Rattle.std.specs.Prelude.{ℕ, ◌*◌, ◌<◌, ◌^◌, ◌≡◌, length}
+use Rattle.sizes.specs.Sizes as size
 use mathlib.Core.List.{List, Memᴰ}
 use Rattle.std.proofs.Math.Option.{Option, some, none}
 use Rattle.integers.specs.Order.{Number}
@@ -9,9 +10,6 @@ use Rattle.limits.specs.declared.Limits.{Limits}
 use Rattle.interval.specs.declared.Bound.{Bound}
 use Rattle.interval.specs.Bound.{HasNumber, HasNames}
 use Rattle.lattice.specs.Value.{Value}
-use Rattle.rows.specs.Row as rows
-use Rattle.nodes.specs.Node as nodes
-use Rattle.rules.specs.Rule as rules
 use Rattle.keys.specs.Key.{Key, name}
 use Rattle.keys.specs.Key as keys
 use Rattle.input.specs.Input as input
@@ -49,15 +47,15 @@ Typed (calls.name k) = Unit {0}
 Typed status = Unit {0}
 
 pub record Lent (t : input.Tables) : Type 0 where
-  pub predicates : length t.predicates ≡ 128
-  pub names : length t.names ≡ 65536
-  pub constants : length t.constants ≡ 2048
-  pub order : length t.order ≡ 1024
-  pub thresholds : length t.thresholds ≡ 4096
-  pub nodes : length t.nodes ≡ nodes.row * 1024
-  pub seeds : length t.seeds ≡ rows.row * 256
-  pub records : length t.records ≡ 2048
-  pub rules : length t.rules ≡ rules.row * 256
+  pub predicates : length t.predicates ≡ size.predicate_cells
+  pub names : length t.names ≡ size.name_cells
+  pub constants : length t.constants ≡ size.constant_cells
+  pub order : length t.order ≡ size.constants
+  pub thresholds : length t.thresholds ≡ size.thresholds
+  pub nodes : length t.nodes ≡ size.node_cells
+  pub seeds : length t.seeds ≡ size.argument_cells
+  pub records : length t.records ≡ size.record_cells
+  pub rules : length t.rules ≡ size.rule_cells
   -- 32-bit cells, unsigned and signed
   pub cells : All (λ c. c < 2 ^ 32) t.constants
   pub numbers : All Number t.thresholds

@@ -1,4 +1,5 @@
 -- What the code's answers are, over plain variables.
+use Rattle.sizes.specs.Sizes as size
 use Prim.Native.Nat.{ℕ, ◌+◌, ◌*◌, ◌<◌, ◌≤◌}
 use native.Mathlib.Omega.{arith}
 use native.Mathlib.Numerals.{add-one}
@@ -21,7 +22,7 @@ use Rattle.thresholds.specs.Thresholds.{Entry, entry}
 use Rattle.integers.proofs.Tests.{and_left, and_right}
 use Rattle.lattice.specs.Value.{Value}
 use Rattle.lattice.specs.Lattice.{bottom}
-use Rattle.rows.specs.Row.{row, put}
+use Rattle.rows.specs.Row.{put}
 use Rattle.store.specs.declared.Store.{Store}
 use Rattle.store.specs.Store.{admits, with_budget, with_thresholds, with_predicate}
 use Rattle.store.specs.Calls.{unless, charged, marks, entering, declared, bottoms, room_for, tables, predicate_call, first_of, arity_of, argument_call}
@@ -99,10 +100,10 @@ bottoms_none seeds from = refl
 
 -- ---- an argument
 
-module _ (p i : ℕ) (rows : List ℕ) (s : Store) (n : length rows ≡ 128) {t : Bool} (h : t ≡ admits s.phase) (o : t ≡ true) (e : p < 64) (f : p < s.counts.predicates) where
+module _ (p i : ℕ) (rows : List ℕ) (s : Store) (n : length rows ≡ size.predicate_cells) {t : Bool} (h : t ≡ admits s.phase) (o : t ≡ true) (e : p < 64) (f : p < s.counts.predicates) where
   pub argument_id : {arity first : ℕ} → arity ≡ arity_of rows p → i < arity → first ≡ first_of rows p → going (first + i) s ≡ argument_call p i rows s
   unfolding argument_call pure
-  argument_id {arity} a g q = rw (eq-eqb (length rows) 128 n, ← h, o, lt-ltb p 64 e, lt-ltb p s.counts.predicates f, ← a, lt-ltb i arity g, q)
+  argument_id {arity} a g q = rw (eq-eqb (length rows) size.predicate_cells n, ← h, o, lt-ltb p 64 e, lt-ltb p s.counts.predicates f, ← a, lt-ltb i arity g, q)
 
 -- ---- room for a predicate
 
@@ -128,35 +129,35 @@ module _ (m : Metered Stop Budget (Unit {0})) (s : Store) {t : Store} (h : going
   charged_context = ap (λ (u : Store). u.context) charged_budget.1
 
 module _ (arity : ℕ) (s : Store) (rows seeds : List ℕ) where
-  pub predicate_rows : (length rows ≡ 128 → ⊥) → stopped (told Shape) (tables s rows seeds) ≡ predicate_call arity (tables s rows seeds)
+  pub predicate_rows : (length rows ≡ size.predicate_cells → ⊥) → stopped (told Shape) (tables s rows seeds) ≡ predicate_call arity (tables s rows seeds)
   unfolding predicate_call
-  predicate_rows n = rw (ne_eqb (length rows) 128 n)
+  predicate_rows n = rw (ne_eqb (length rows) size.predicate_cells n)
 
-  module _ (n : length rows ≡ 128) where
-    pub predicate_seeds : (length seeds ≡ row * 256 → ⊥) → stopped (told Shape) (tables s rows seeds) ≡ predicate_call arity (tables s rows seeds)
+  module _ (n : length rows ≡ size.predicate_cells) where
+    pub predicate_seeds : (length seeds ≡ size.argument_cells → ⊥) → stopped (told Shape) (tables s rows seeds) ≡ predicate_call arity (tables s rows seeds)
     unfolding predicate_call
-    predicate_seeds k = rw (eq-eqb (length rows) 128 n, ne_eqb (length seeds) (row * 256) k)
+    predicate_seeds k = rw (eq-eqb (length rows) size.predicate_cells n, ne_eqb (length seeds) size.argument_cells k)
 
-    module _ (k : length seeds ≡ row * 256) {t : Bool} (h : t ≡ admits s.phase) where
+    module _ (k : length seeds ≡ size.argument_cells) {t : Bool} (h : t ≡ admits s.phase) where
       pub predicate_closed : t ≡ false → stopped (told Closed) (tables s rows seeds) ≡ predicate_call arity (tables s rows seeds)
       unfolding predicate_call
-      predicate_closed e = rw (eq-eqb (length rows) 128 n, eq-eqb (length seeds) (row * 256) k, ← h, e)
+      predicate_closed e = rw (eq-eqb (length rows) size.predicate_cells n, eq-eqb (length seeds) size.argument_cells k, ← h, e)
 
       module _ (o : t ≡ true) {f : Bool} (q : f ≡ room_for s.counts.predicates s.counts.positions arity) where
         pub predicate_full : f ≡ false → stopped (told Full) (tables s rows seeds) ≡ predicate_call arity (tables s rows seeds)
         unfolding predicate_call
-        predicate_full e = rw (eq-eqb (length rows) 128 n, eq-eqb (length seeds) (row * 256) k, ← h, o, ← q, e)
+        predicate_full e = rw (eq-eqb (length rows) size.predicate_cells n, eq-eqb (length seeds) size.argument_cells k, ← h, o, ← q, e)
 
         module _ (y : f ≡ true) where
           pub predicate_work : (r : Refusal) {u : Store} → stopped (told r) u ≡ charged (work 1) s → stopped (told r) (tables u rows seeds) ≡ predicate_call arity (tables s rows seeds)
           unfolding predicate_call
-          predicate_work r p = rw (eq-eqb (length rows) 128 n, eq-eqb (length seeds) (row * 256) k, ← h, o, ← q, y) (then_stop _ _ _ (through_stop _ _ _ _ (charged (work 1)) (tables s rows seeds) p))
+          predicate_work r p = rw (eq-eqb (length rows) size.predicate_cells n, eq-eqb (length seeds) size.argument_cells k, ← h, o, ← q, y) (then_stop _ _ _ (through_stop _ _ _ _ (charged (work 1)) (tables s rows seeds) p))
 
           module _ {u : Store} (p : going tt u ≡ charged (work 1) s) where
             pub predicate_declare : (r : Refusal) {v : Store} → stopped (told r) v ≡ charged (declared arity) u → stopped (told r) (tables v rows seeds) ≡ predicate_call arity (tables s rows seeds)
             unfolding predicate_call
             predicate_declare r d =
-                rw (eq-eqb (length rows) 128 n, eq-eqb (length seeds) (row * 256) k, ← h, o, ← q, y)
+                rw (eq-eqb (length rows) size.predicate_cells n, eq-eqb (length seeds) size.argument_cells k, ← h, o, ← q, y)
                 (then_on _ _ _ (through_on _ _ _ _ (charged (work 1)) (tables s rows seeds) p) (then_stop _ _ _ (through_stop _ _ _ _ (charged (declared arity)) (tables u rows seeds) d)))
 
             pub predicate_id : {v w : Store} {rows₁ rows₂ seeds' : List ℕ} → going tt v ≡ charged (declared arity) u → w ≡ with_predicate arity v →
@@ -165,5 +166,5 @@ module _ (arity : ℕ) (s : Store) (rows seeds : List ℕ) where
             unfolding predicate_call
             predicate_id {v} {w} {rows₁} {rows₂} {seeds'} d e r₁ r₂ g =
                 let c : v.counts ≡ s.counts = charged_counts (declared arity) u d ∙ charged_counts (work 1) s p in
-                rw (eq-eqb (length rows) 128 n, eq-eqb (length seeds) (row * 256) k, ← h, o, ← q, y)
+                rw (eq-eqb (length rows) size.predicate_cells n, eq-eqb (length seeds) size.argument_cells k, ← h, o, ← q, y)
                 (then_on _ _ _ (through_on _ _ _ _ (charged (work 1)) (tables s rows seeds) p) (then_on _ _ _ (through_on _ _ _ _ (charged (declared arity)) (tables u rows seeds) d) (rw (e, r₂, r₁, g, c, add-one (2 * s.counts.predicates)))))

@@ -1,5 +1,6 @@
 -- The calls of a store, on the header and the lent tables as they stand: an answer or a refusal, and the header and tables afterwards.
 use Rattle.std.specs.Prelude.{ℕ, zero, suc, ◌+◌, ◌*◌, Bool, cond, ◌&&◌, List, [], ◌∷◌, leb, ltb, eqb, ℤ, length, get_or}
+use Rattle.sizes.specs.Sizes as size
 use Rattle.std.proofs.lemmas.List.Edits.{sets}
 use Rattle.limits.specs.declared.Stop.{Stop}
 use Rattle.limits.specs.declared.Budget.{Budget}
@@ -10,7 +11,7 @@ use Rattle.limits.specs.Metered.{Metered, going, stopped, pure, ◌>>◌, whole,
 use Rattle.limits.specs.Budget.{work, predicates, positions}
 use Rattle.thresholds.specs.Thresholds.{Entry, entry}
 use Rattle.lattice.specs.Lattice.{bottom}
-use Rattle.rows.specs.Row.{row, put}
+use Rattle.rows.specs.Row.{put}
 use Rattle.std.specs.Prelude.{Some}
 use Rattle.store.specs.declared.Store.{Store}
 use Rattle.store.specs.Store.{admits, with_budget, with_context, with_predicate, with_thresholds}
@@ -50,17 +51,17 @@ work_call n = unless open? Closed (charged (work n))
 
 -- a row of the predicates' table: the first argument and the arity
 abbrev pub first_of : List ℕ → ℕ → ℕ
-first_of rows p = get_or rows (2 * p) 0
+first_of rows p = get_or rows (size.predicate_row * p) 0
 
 abbrev pub arity_of : List ℕ → ℕ → ℕ
-arity_of rows p = get_or rows (2 * p + 1) 0
+arity_of rows p = get_or rows (size.predicate_row * p + 1) 0
 
 -- `Input::argument`: it charges nothing
 unfoldable pub argument_call : ℕ → ℕ → List ℕ → Metered Told Store ℕ
 argument_call p i rows =
-    unless (λ s. eqb (length rows) 128) Shape
+    unless (λ s. eqb (length rows) size.predicate_cells) Shape
     (unless open? Closed
-    (unless (λ s. ltb p 64 && ltb p s.counts.predicates) Missing
+    (unless (λ s. ltb p size.predicates && ltb p s.counts.predicates) Missing
     (unless (λ s. ltb i (arity_of rows p)) Missing
     (pure (first_of rows p + i)))))
 
@@ -77,7 +78,7 @@ bottoms seeds from (suc n) = put (bottoms seeds from n) (from + n) bottom
 
 -- 01, refusal 2, and table sizes: "64 predicates; 256 positions"
 abbrev pub room_for : ℕ → ℕ → ℕ → Bool
-room_for predicates positions arity = ltb predicates 64 && leb (positions + arity) 256
+room_for predicates positions arity = ltb predicates size.predicates && leb (positions + arity) size.positions
 
 -- the header and the tables that the call is lent
 pub record Tables : Type 0 where
@@ -96,12 +97,12 @@ abbrev pub add_predicate : ℕ → Metered Told Tables ℕ
 add_predicate arity t =
     going t.header.counts.predicates
     (tables (with_predicate arity t.header)
-    (sets t.rows (2 * t.header.counts.predicates) (t.header.counts.positions ∷ arity ∷ []))
+    (sets t.rows (size.predicate_row * t.header.counts.predicates) (t.header.counts.positions ∷ arity ∷ []))
     (bottoms t.seeds t.header.counts.positions arity))
 
 unfoldable pub predicate_call : ℕ → Metered Told Tables ℕ
 predicate_call arity =
-    unless (λ t. eqb (length t.rows) 128 && eqb (length t.seeds) (row * 256)) Shape
+    unless (λ t. eqb (length t.rows) size.predicate_cells && eqb (length t.seeds) size.argument_cells) Shape
     (unless (λ t. open? t.header) Closed
     (unless (λ t. room_for t.header.counts.predicates t.header.counts.positions arity) Full
     (in_header (charged (work 1)) >> in_header (charged (declared arity)) >> add_predicate arity)))

@@ -1,5 +1,6 @@
 -- The header of a store: which calls a phase admits, and the header with one part changed. Headers are made in this file alone.
 use Rattle.std.specs.Prelude.{ℕ, ◌+◌, Bool, true, false, cond, leb, Option, None}
+use Rattle.sizes.specs.Sizes as size
 use Rattle.limits.specs.declared.Limits.{Limits}
 use Rattle.limits.specs.declared.Budget.{Budget}
 use Rattle.limits.specs.declared.Refusal.TheVariants.{Shape}
@@ -22,132 +23,54 @@ admits Open = true
 admits Completed = false
 admits (Stopped s c) = false
 
+abbrev pub counts : ℕ → ℕ → ℕ → ℕ → ℕ → ℕ → ℕ → ℕ → Counts
+counts p a c k e r t n = record { predicates = p; positions = a; constants = c; keys = k; expressions = e; rules = r; thresholds = t; provenance = n }
+
+abbrev pub header : Budget → Counts → Context → Phase → Store
+header b n c p = record { budget = b; counts = n; context = c; phase = p }
+
 abbrev pub with_budget : Budget → Store → Store
-with_budget b s = record { budget = b; counts = s.counts; context = s.context; phase = s.phase }
-
-abbrev pub with_context : Context → Store → Store
-with_context c s = record { budget = s.budget; counts = s.counts; context = c; phase = s.phase }
-
-abbrev pub with_phase : Phase → Store → Store
-with_phase p s = record { budget = s.budget; counts = s.counts; context = s.context; phase = p }
+with_budget b s = header b s.counts s.context s.phase
 
 abbrev pub with_counts : Counts → Store → Store
-with_counts n s = record { budget = s.budget; counts = n; context = s.context; phase = s.phase }
+with_counts n s = header s.budget n s.context s.phase
+
+abbrev pub with_context : Context → Store → Store
+with_context c s = header s.budget s.counts c s.phase
+
+abbrev pub with_phase : Phase → Store → Store
+with_phase p s = header s.budget s.counts s.context p
 
 -- one predicate more, and as many positions as its arity
 abbrev pub with_predicate : ℕ → Store → Store
-with_predicate arity s =
-    with_counts
-    record {
-      predicates = s.counts.predicates + 1;
-      positions = s.counts.positions + arity;
-      constants = s.counts.constants;
-      keys = s.counts.keys;
-      expressions = s.counts.expressions;
-      rules = s.counts.rules;
-      thresholds = s.counts.thresholds;
-      provenance = s.counts.provenance;
-    }
-    s
+with_predicate arity s = with_counts (counts (s.counts.predicates + 1) (s.counts.positions + arity) s.counts.constants s.counts.keys s.counts.expressions s.counts.rules s.counts.thresholds s.counts.provenance) s
 
 -- ---- one table's count is n, all else is as it was
 
 abbrev pub with_constants : ℕ → Store → Store
-with_constants n s =
-    with_counts
-    record {
-      predicates = s.counts.predicates;
-      positions = s.counts.positions;
-      constants = n;
-      keys = s.counts.keys;
-      expressions = s.counts.expressions;
-      rules = s.counts.rules;
-      thresholds = s.counts.thresholds;
-      provenance = s.counts.provenance;
-    }
-    s
+with_constants n s = with_counts (counts s.counts.predicates s.counts.positions n s.counts.keys s.counts.expressions s.counts.rules s.counts.thresholds s.counts.provenance) s
 
 abbrev pub with_keys : ℕ → Store → Store
-with_keys n s =
-    with_counts
-    record {
-      predicates = s.counts.predicates;
-      positions = s.counts.positions;
-      constants = s.counts.constants;
-      keys = n;
-      expressions = s.counts.expressions;
-      rules = s.counts.rules;
-      thresholds = s.counts.thresholds;
-      provenance = s.counts.provenance;
-    }
-    s
+with_keys n s = with_counts (counts s.counts.predicates s.counts.positions s.counts.constants n s.counts.expressions s.counts.rules s.counts.thresholds s.counts.provenance) s
 
 abbrev pub with_expressions : ℕ → Store → Store
-with_expressions n s =
-    with_counts
-    record {
-      predicates = s.counts.predicates;
-      positions = s.counts.positions;
-      constants = s.counts.constants;
-      keys = s.counts.keys;
-      expressions = n;
-      rules = s.counts.rules;
-      thresholds = s.counts.thresholds;
-      provenance = s.counts.provenance;
-    }
-    s
+with_expressions n s = with_counts (counts s.counts.predicates s.counts.positions s.counts.constants s.counts.keys n s.counts.rules s.counts.thresholds s.counts.provenance) s
 
 abbrev pub with_rules : ℕ → Store → Store
-with_rules n s =
-    with_counts
-    record {
-      predicates = s.counts.predicates;
-      positions = s.counts.positions;
-      constants = s.counts.constants;
-      keys = s.counts.keys;
-      expressions = s.counts.expressions;
-      rules = n;
-      thresholds = s.counts.thresholds;
-      provenance = s.counts.provenance;
-    }
-    s
+with_rules n s = with_counts (counts s.counts.predicates s.counts.positions s.counts.constants s.counts.keys s.counts.expressions n s.counts.thresholds s.counts.provenance) s
 
 abbrev pub with_thresholds : ℕ → Store → Store
-with_thresholds n s =
-    with_counts
-    record {
-      predicates = s.counts.predicates;
-      positions = s.counts.positions;
-      constants = s.counts.constants;
-      keys = s.counts.keys;
-      expressions = s.counts.expressions;
-      rules = s.counts.rules;
-      thresholds = n;
-      provenance = s.counts.provenance;
-    }
-    s
+with_thresholds n s = with_counts (counts s.counts.predicates s.counts.positions s.counts.constants s.counts.keys s.counts.expressions s.counts.rules n s.counts.provenance) s
 
 abbrev pub with_provenance : ℕ → Store → Store
-with_provenance n s =
-    with_counts
-    record {
-      predicates = s.counts.predicates;
-      positions = s.counts.positions;
-      constants = s.counts.constants;
-      keys = s.counts.keys;
-      expressions = s.counts.expressions;
-      rules = s.counts.rules;
-      thresholds = s.counts.thresholds;
-      provenance = n;
-    }
-    s
+with_provenance n s = with_counts (counts s.counts.predicates s.counts.positions s.counts.constants s.counts.keys s.counts.expressions s.counts.rules s.counts.thresholds n) s
 
 abbrev pub nothing : Counts
-nothing = record { predicates = 0; positions = 0; constants = 0; keys = 0; expressions = 0; rules = 0; thresholds = 0; provenance = 0 }
+nothing = counts 0 0 0 0 0 0 0 0
 
 abbrev pub empty : Limits → Phase → Store
-empty l p = record { budget = fresh l; counts = nothing; context = None; phase = p }
+empty l p = header (fresh l) nothing None p
 
 -- 01, refusal 1: "width over 16". There is then no store: a phase of its own.
 abbrev pub fresh_of : Limits → Run Told Store (Unit {0})
-fresh_of l = cond (leb l.width 16) (going tt (empty l Open)) (stopped (told Shape) (empty l Absent))
+fresh_of l = cond (leb l.width size.width) (going tt (empty l Open)) (stopped (told Shape) (empty l Absent))

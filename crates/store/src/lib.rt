@@ -3,6 +3,7 @@
 #![tactic(auto)]
 
 ghost use Rattle.std.specs.Prelude.{◌≡◌, ◌+◌, ◌≤◌, length};
+ghost use Rattle.sizes.specs.Sizes as size;
 ghost use Rattle.limits.specs.Budget.{charge};
 ghost use Rattle.limits.specs.Metered.{answered};
 ghost use Rattle.limits.specs.Refusal.{replied};
@@ -44,16 +45,13 @@ pub struct Store {
     pub phase: Phase,
 }
 
-// The predicates that the table has rows for, and the positions that seeds has.
-pub const PREDICATES: usize = 64;
-
-pub const POSITIONS: usize = 256;
-
 // Whether the tables have room for one predicate more.
 fn has_room(predicates: usize, positions: usize, arity: u64) -> bool
     ensures { result ≡ room_for predicates positions arity }
 {
-    predicates < PREDICATES && positions <= POSITIONS && arity <= (POSITIONS - positions) as u64
+    predicates < sizes::PREDICATES
+        && positions <= sizes::POSITIONS
+        && arity <= (sizes::POSITIONS - positions) as u64
 }
 
 // The charges of a new predicate beside its first unit of work: all of them or none.
@@ -70,7 +68,7 @@ fn declare(arity: u64, budget: &mut Budget) -> Result<(), Stop>
 
 // Rows of seeds that nothing is seeded to.
 fn clear_seeds(seeds: &mut [u32], from: usize, count: usize)
-    requires { from + count ≤ 256 }
+    requires { from + count ≤ size.positions }
     ensures { seeds.new ≡ bottoms seeds.old from count }
 {
     for j in 0..count {
@@ -106,7 +104,7 @@ pub fn fresh(limits: Limits) -> (Store, Result<(), Refusal>)
         context: None,
         phase: Phase::Open,
     };
-    if 16 < limits.width {
+    if (sizes::WIDTH as u64) < limits.width {
         store.phase = Phase::Absent;
         return (store, Err(Refusal::Shape));
     }
@@ -164,16 +162,16 @@ impl Store {
     ) -> Result<usize, Refusal>
         ensures { replied result self.now ≡ argument_call predicate position predicates.now self.now }
     {
-        if predicates.len() != 2 * PREDICATES {
+        if predicates.len() != sizes::PREDICATE_CELLS {
             return Err(Refusal::Shape);
         }
         if !self.phase.admits() {
             return Err(Refusal::Closed);
         }
-        if PREDICATES as u64 <= predicate || self.counts.predicates as u64 <= predicate {
+        if sizes::PREDICATES as u64 <= predicate || self.counts.predicates as u64 <= predicate {
             return Err(Refusal::Missing);
         }
-        let row = 2 * (predicate as usize);
+        let row = sizes::PREDICATE_ROW * (predicate as usize);
         let start = cells::cell_at(predicates, row) as u64;
         let arity = cells::cell_at(predicates, row + 1) as u64;
         if arity <= position {
@@ -194,7 +192,7 @@ impl Store {
     {
         let id = self.counts.predicates;
         let start = self.counts.positions;
-        if predicates.len() != 2 * PREDICATES || seeds.len() != rows::ROW * POSITIONS {
+        if predicates.len() != sizes::PREDICATE_CELLS || seeds.len() != sizes::ARGUMENT_CELLS {
             return Err(Refusal::Shape);
         }
         if !self.phase.admits() {
@@ -205,8 +203,9 @@ impl Store {
         }
         self.pay(Resource::Work, 1)?;
         declare(arity, &mut self.budget)?;
-        cells::put_cell(predicates, 2 * id, start as u32);
-        cells::put_cell(predicates, 2 * id + 1, arity as u32);
+        let row = sizes::PREDICATE_ROW * id;
+        cells::put_cell(predicates, row, start as u32);
+        cells::put_cell(predicates, row + 1, arity as u32);
         clear_seeds(seeds, start, arity as usize);
         self.counts.predicates += 1;
         self.counts.positions += arity as usize;

@@ -10,7 +10,8 @@ use Rattle.limits.specs.Meter.{released}
 use Rattle.limits.proofs.Monad.{Ensures}
 use Rattle.limits.proofs.Ends.{Ends, ends_through, on_then}
 use Rattle.limits.proofs.Live.{Lives}
-use Rattle.rows.specs.Row.{row, entries_of}
+use Rattle.sizes.specs.Sizes.{value_row}
+use Rattle.rows.specs.Row.{entries_of}
 use Rattle.rows.proofs.Good.{Good}
 use Rattle.rules.specs.Read.{slots_at, bindings_at, guards_at}
 use Rattle.slots.specs.Slots.{slots, total}
@@ -35,14 +36,14 @@ pub record Filled (n e : ℕ) (s : Frame) : Type 0 where
 
 -- room for n rows before guards and after them, in tables whose rows are values that the engine makes; refinements may be anything of 32 bits
 pub record Lent (n : ℕ) (s : Frame) : Type 0 where
-  pub before : row * n ≤ length s.domains
-  pub after : row * n ≤ length s.produced
+  pub before : value_row * n ≤ length s.domains
+  pub after : value_row * n ≤ length s.produced
   pub domains : Formed s.domains
   pub produced : Formed s.produced
   pub refinements : All (λ c. c < 2 ^ 32) s.refinements
 
 module _ (i : Input) (small : All (λ c. c < 2 ^ 32) i.constants) (rules : List ℕ) (id : ℕ) (guarded : All (GuardIn (slots_at rules id) i) (guards_at rules id)) where
-  guarding_ends : (e : ℕ) (s : Frame) → Held (slots_at rules id) e (slots s.meter s.domains) → row * slots_at rules id ≤ length s.produced → Formed s.produced → All (λ c. c < 2 ^ 32) s.refinements →
+  guarding_ends : (e : ℕ) (s : Frame) → Held (slots_at rules id) e (slots s.meter s.domains) → value_row * slots_at rules id ≤ length s.produced → Formed s.produced → All (λ c. c < 2 ^ 32) s.refinements →
       Ends (λ _ t. Filled (slots_at rules id) e t) (λ _ t. t.meter.entries ≡ e + total t.domains (slots_at rules id)) (guarding i rules id s)
   unfolding guarding
   guarding_ends e s h room f cells =

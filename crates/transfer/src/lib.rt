@@ -12,11 +12,6 @@ use evaluation::{Input, Scene};
 use lattice::Abstract;
 use limits::{Meter, Stop};
 
-// The rows of a table of slots, and of a table of refinements: two for each guard.
-pub const SLOTS: usize = 16;
-
-pub const REFINEMENTS: usize = 64;
-
 // The values of a rule's slots, and how many refinements its guards have recorded. Where it is stopped, nothing that it made stays live.
 pub fn rule(
     input: &Input,

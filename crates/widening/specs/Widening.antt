@@ -1,5 +1,6 @@
 -- `widen` of engine.rs with its charges, and how often the sides of each argument have grown. That this is 01's rule is proofs/Rule.antt.
 use Rattle.std.specs.Prelude.{ℕ, zero, suc, ◌+◌, ◌*◌, Bool, cond, List, [], ◌∷◌, reverse, ltb, ℤ, get_or, Option, Some, None}
+use Rattle.sizes.specs.Sizes as size
 use Rattle.std.specs.Int.Signed.{le_z}
 use Rattle.std.proofs.lemmas.List.Edits.{sets}
 use Rattle.limits.specs.declared.Stop.{Stop}
@@ -73,13 +74,13 @@ widen_ends thresholds next g (Some (old_low, old_high)) (Some (low, high)) = do
 unfoldable pub widen : List ℤ → Interval → Interval → Growth → Metered Stop Meter Wide
 widen thresholds previous next g = widen_ends thresholds next g (endpoints_of previous) (endpoints_of next)
 
--- ---- the growth of all arguments, two cells for each of 256; one beyond them has not grown
+-- ---- the growth of all arguments, two cells for each; one beyond them has not grown
 
 unfoldable pub growth_at : List ℕ → ℕ → Growth
-growth_at cells k = cond (ltb k 256) (growth (get_or cells (2 * k) 0) (get_or cells (2 * k + 1) 0)) (growth 0 0)
+growth_at cells k = cond (ltb k size.positions) (growth (get_or cells (size.growth_row * k) 0) (get_or cells (size.growth_row * k + 1) 0)) (growth 0 0)
 
 unfoldable pub put_growth : List ℕ → ℕ → Growth → List ℕ
-put_growth cells k g = cond (ltb k 256) (sets cells (2 * k) (g.low ∷ g.high ∷ [])) cells
+put_growth cells k g = cond (ltb k size.positions) (sets cells (size.growth_row * k) (g.low ∷ g.high ∷ [])) cells
 
 -- no side of the first n arguments has grown
 unfoldable pub no_growth : List ℕ → ℕ → List ℕ

@@ -30,9 +30,6 @@ struct Side {
     grown: u32,
 }
 
-// The arguments that a table of growth has two cells for.
-pub const ARGUMENTS: usize = 256;
-
 impl Growth {
     // No side has grown yet.
     pub const NONE: Growth = Growth { low: 0, high: 0 };
@@ -41,21 +38,21 @@ impl Growth {
 pub fn growth_at(cells: &[u32], argument: usize) -> Growth
     ensures { result ≡ growth_at cells.now argument }
 {
-    if ARGUMENTS <= argument {
+    if sizes::POSITIONS <= argument {
         return Growth::NONE;
     }
     Growth {
-        low: cells::cell_at(cells, 2 * argument),
-        high: cells::cell_at(cells, 2 * argument + 1),
+        low: cells::cell_at(cells, sizes::GROWTH_ROW * argument),
+        high: cells::cell_at(cells, sizes::GROWTH_ROW * argument + 1),
     }
 }
 
 pub fn put_growth(cells: &mut [u32], argument: usize, growth: Growth)
     ensures { cells.new ≡ put_growth cells.old argument growth }
 {
-    if argument < ARGUMENTS {
-        cells::put_cell(cells, 2 * argument, growth.low);
-        cells::put_cell(cells, 2 * argument + 1, growth.high);
+    if argument < sizes::POSITIONS {
+        cells::put_cell(cells, sizes::GROWTH_ROW * argument, growth.low);
+        cells::put_cell(cells, sizes::GROWTH_ROW * argument + 1, growth.high);
     }
 }
 
