@@ -31,7 +31,7 @@ use Rattle.rows.proofs.RowLaws.{numeric_none}
 use Rattle.evaluation.proofs.Live.{expression_lives, both_lives}
 use Rattle.operators.proofs.Formed.{span_proper}
 use Rattle.evaluation.proofs.Formed.{expression_good, both_good}
-use Rattle.bindings.specs.Bindings.{assigned, aggregate, spanning, ranged, meeting, meet_binding, passes, bind}
+use Rattle.bindings.specs.Bindings.{assigned, aggregate, spanning, ranged, meeting, meet_binding, three_passes, bind}
 
 -- ---- what is worked out: the entries of its own list alone
 
@@ -102,8 +102,8 @@ module _ (i : Input) (small : All (λ c. c < 2 ^ 32) i.constants) {n : ℕ} wher
   -- ---- all of them
 
   module _ (arguments : List ℕ) (formed : Formed arguments) (bs : List Binding) (inside : All (SlotIn n) bs) where
-    pub keeps_passes : Keeps n (passes i arguments bs)
-    unfolding passes
+    pub keeps_passes : Keeps n (three_passes i arguments bs)
+    unfolding three_passes
     keeps_passes =
         keeps_then (keeps_arguments i.constants small arguments formed bs inside)
         (keeps_then (keeps_dependents bs inside) (keeps_each (meet_binding i) bs (all bs inside)))
@@ -115,6 +115,6 @@ module _ (i : Input) (small : All (λ c. c < 2 ^ 32) i.constants) {n : ℕ} wher
     pub bind_ends : (e : ℕ) (s : Slots) → value_row * n ≤ length s.rows → Formed s.rows → s.meter.entries ≡ e → Ends (λ _ t. Held n e t) (λ _ t. t.meter.entries ≡ e) (bind i arguments n bs s)
     unfolding bind total
     bind_ends e s room f q =
-        ends_then {P = λ _ t. Held (0 + n) e t} {Q = λ _ t. t.meter.entries ≡ s.meter.entries} (tops 0 n) (holding_rows n (passes i arguments bs)) s
+        ends_then {P = λ _ t. Held (0 + n) e t} {Q = λ _ t. t.meter.entries ≡ s.meter.entries} (tops 0 n) (holding_rows n (three_passes i arguments bs)) s
         (tops_ends 0 n e s (omega arith) record { room = omega arith; formed = f; live = omega arith })
         (λ _ t p. held_rows keeps_passes e t (rw zero-add at p)) (λ _ t p. p ∙ q)

@@ -13,7 +13,7 @@ use Rattle.slots.specs.Slots.{paying, meet_owned}
 use Rattle.slots.proofs.Steady.{OnRows, on_paying, on_holding, on_owned, on_each, on_tops, on_argument, on_dependent}
 use Rattle.evaluation.specs.Evaluation.{Input, Values}
 use Rattle.evaluation.proofs.Steady.{expression_steady, both_steady}
-use Rattle.bindings.specs.Bindings.{assigned, aggregate, spanning, ranged, meeting, meet_binding, passes, bind}
+use Rattle.bindings.specs.Bindings.{assigned, aggregate, spanning, ranged, meeting, meet_binding, three_passes, bind}
 
 pub assigned_steady : (i : Input) (rows : List ℕ) (id : ℕ) → Steady (assigned i rows id)
 unfolding assigned
@@ -37,8 +37,8 @@ on_binding i (Assign slot value) = on_meeting i.constants slot (λ rows. assigne
 on_binding i (Range slot low high) = on_meeting i.constants slot (λ rows. ranged_steady i rows low high)
 on_binding i (Aggregate slot function) = on_owned i.constants slot (aggregate function)
 
-pub on_passes : (i : Input) (arguments : List ℕ) (bs : List Binding) → OnRows (passes i arguments bs)
-unfolding passes
+pub on_passes : (i : Input) (arguments : List ℕ) (bs : List Binding) → OnRows (three_passes i arguments bs)
+unfolding three_passes
 on_passes i arguments bs = on_then (on_each (on_argument i.constants arguments) bs) (on_then (on_each on_dependent bs) (on_each (on_binding i) bs))
 
 pub on_bindings : (i : Input) (arguments : List ℕ) (n : ℕ) (bs : List Binding) → OnRows (bind i arguments n bs)

@@ -1,4 +1,4 @@
--- The values of a rule's slots before guards: the three passes of `rule` of transfer.rs over the bindings. 01: "Bindings, guards and heads
+-- The values of a rule's slots before guards: the three three_passes of `rule` of transfer.rs over the bindings. 01: "Bindings, guards and heads
 -- follow transfer.rs in order."
 use Rattle.std.specs.Prelude.{ℕ, List, []}
 use Rattle.limits.specs.declared.Stop.{Stop}
@@ -49,9 +49,9 @@ meet_binding i (Range slot low high) = meeting i.constants slot (λ rows. ranged
 meet_binding i (Aggregate slot function) = meet_owned i.constants slot (aggregate function)
 
 -- positive bindings, their reasons, all other bindings
-unfoldable pub passes : Input → List ℕ → List Binding → Metered Stop Slots (Unit {0})
-passes i arguments bs = each (meet_argument i.constants arguments) bs >> each mark_dependent bs >> each (meet_binding i) bs
+unfoldable pub three_passes : Input → List ℕ → List Binding → Metered Stop Slots (Unit {0})
+three_passes i arguments bs = each (meet_argument i.constants arguments) bs >> each mark_dependent bs >> each (meet_binding i) bs
 
 -- of a rule with n slots, of which nothing is known at first
 unfoldable pub bind : Input → List ℕ → ℕ → List Binding → Metered Stop Slots (Unit {0})
-bind i arguments n bs = tops 0 n >> holding_rows n (passes i arguments bs)
+bind i arguments n bs = tops 0 n >> holding_rows n (three_passes i arguments bs)

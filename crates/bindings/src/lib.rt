@@ -8,7 +8,7 @@ ghost use Rattle.lattice.specs.Answers.{answered_value};
 ghost use Rattle.rules.specs.Read.{slots_at, bindings_at};
 ghost use Rattle.slots.specs.Slots.{slots, each};
 ghost use Rattle.evaluation.specs.Operands.{input_in};
-ghost use Rattle.bindings.specs.Bindings.{assigned, aggregate, ranged, meet_binding, passes, bind};
+ghost use Rattle.bindings.specs.Bindings.{assigned, aggregate, ranged, meet_binding, three_passes, bind};
 
 use evaluation::{Input, Scene};
 use interval::Interval;
@@ -115,7 +115,7 @@ fn bind_rows(
     id: usize,
     meter: &mut Meter,
 ) -> Result<(), Stop>
-    ensures { answered result (slots meter.new cells.new) ≡ passes (input_in input.now) arguments.now (bindings_at rules.now id) (slots meter.old cells.old) }
+    ensures { answered result (slots meter.new cells.new) ≡ three_passes (input_in input.now) arguments.now (bindings_at rules.now id) (slots meter.old cells.old) }
 {
     slots::meet_arguments(cells, rules, arguments, input.constants, id, meter)?;
     slots::mark_dependents(cells, rules, id, meter)?;

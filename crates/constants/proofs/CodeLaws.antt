@@ -29,14 +29,14 @@ use Rattle.keys.specs.Key.{Key, number, name, put_cells, probe, seek_key}
 use Rattle.store.specs.declared.Counts.{Counts}
 use Rattle.store.specs.declared.Store.{Store}
 use Rattle.store.specs.Store.{admits, with_budget, with_constants}
-use Rattle.store.specs.Calls.{charged, Marks, marks, entering}
+use Rattle.store.specs.Calls.{billing, Marks, marks, entering}
 use Rattle.store.proofs.CodeLaws.{charged_counts}
-use Rattle.constants.specs.Constant.{bytes_of, retains, classify, cost, settle, keep, abandon, retain, add_key, KeyTables, key_tables, Tables, tables, in_marks, in_keys, in_header, sizes, spacious, constant_call}
+use Rattle.constants.specs.Constant.{bytes_of, retains, classify, cost, settle, keep_key, abandon, retain_key, add_key, KeyTables, key_tables, Tables, tables, in_marks, in_keys, in_header, sized, spacious, constant_call}
 
 -- ---- refusals 1 and 2
 
 module _ (n c o t : ℕ) where
-  pub sizes_yes : sizes n c o t ≡ true → (n ≡ size.name_cells) × (c ≡ size.constant_cells) × (o ≡ size.constants) × (t ≡ size.thresholds)
+  pub sizes_yes : sized n c o t ≡ true → (n ≡ size.name_cells) × (c ≡ size.constant_cells) × (o ≡ size.constants) × (t ≡ size.thresholds)
   sizes_yes h =
       let j = and_right (eqb n size.name_cells) _ h in
       let k = and_right (eqb c size.constant_cells) _ j in
@@ -56,8 +56,8 @@ unfolding mapped
 beside (Ok a) u t = refl
 beside (Err x) u t = refl
 
-pub classified_name : (text : List ℕ) (s : Store) (t : List ℤ) (r : Result (Unit {0}) Refusal) (u : Store) → replied r u ≡ charged (bytes (length text)) s → replied r (marks u t) ≡ classify (name text) (marks s t)
-classified_name text s t r u h = beside r u t ∙ through_is _ _ _ _ (charged (bytes (length text))) (marks s t) h
+pub classified_name : (text : List ℕ) (s : Store) (t : List ℤ) (r : Result (Unit {0}) Refusal) (u : Store) → replied r u ≡ billing (bytes (length text)) s → replied r (marks u t) ≡ classify (name text) (marks s t)
+classified_name text s t r u h = beside r u t ∙ through_is _ _ _ _ (billing (bytes (length text))) (marks s t) h
 
 -- ---- a key that is not in the key order yet
 
@@ -70,16 +70,16 @@ module _ (k : Key) (low : ℕ) (s : Store) (n c o : List ℕ) {b : Budget} where
   unfolding settle ◌>>◌ ◌>>=◌ after through mapped
   enroll_new h j = rw (← h) j
 
--- ---- the ways of `keep`
+-- ---- the ways of `keep_key`
 
 module _ (k : Key) (s : Store) (n c o : List ℕ) (m : Meter) {r : Result Place Stop} (h : answered r m ≡ seek_key n c o s.counts.keys k (meter_of s.budget)) {b : Budget} (q : b ≡ with_meter m s.budget) where
-  pub keep_halted : {e : Stop} → r ≡ Err e → stopped (told (Limit e)) (key_tables (with_budget b s) n c o) ≡ keep k (key_tables s n c o)
-  unfolding keep ◌>>=◌ after through mapped
+  pub keep_halted : {e : Stop} → r ≡ Err e → stopped (told (Limit e)) (key_tables (with_budget b s) n c o) ≡ keep_key k (key_tables s n c o)
+  unfolding keep_key ◌>>=◌ after through mapped
   keep_halted e = rw (q, ← h, e)
 
   module _ {p : Place} (e : r ≡ Ok p) where
-    pub keep_found : {i id : ℕ} → p ≡ found i → id ≡ get_or o i 0 → going id (key_tables (with_budget b s) n c o) ≡ keep k (key_tables s n c o)
-    unfolding keep settle ◌>>=◌ after through mapped
+    pub keep_found : {i id : ℕ} → p ≡ found i → id ≡ get_or o i 0 → going id (key_tables (with_budget b s) n c o) ≡ keep_key k (key_tables s n c o)
+    unfolding keep_key settle ◌>>=◌ after through mapped
     keep_found f g = rw (q, g, ← h, e, f)
 
     module _ {low : ℕ} (f : p ≡ absent low) where
@@ -87,31 +87,31 @@ module _ (k : Key) (s : Store) (n c o : List ℕ) (m : Meter) {r : Result Place 
       unfolding seek_key
       place_within = absent_within (probe n c o k) s.counts.keys (meter_of s.budget) (answering.went h (e ∙ ap Ok f))
 
-      pub keep_new : {y : Run Told KeyTables ℕ} → y ≡ settle k s.counts.keys (absent low) (key_tables (with_budget b s) n c o) → y ≡ keep k (key_tables s n c o)
-      unfolding keep ◌>>=◌ after through mapped
+      pub keep_new : {y : Run Told KeyTables ℕ} → y ≡ settle k s.counts.keys (absent low) (key_tables (with_budget b s) n c o) → y ≡ keep_key k (key_tables s n c o)
+      unfolding keep_key ◌>>=◌ after through mapped
       keep_new j = rw (← h, e, f, ← q) j
 
 -- ---- and of `abandon`
 
 module _ (s : Store) (n c o : List ℕ) {u : Store} where
-  pub abandon_unpaid : {f : Told} → stopped f u ≡ charged (links 1) s → stopped f (key_tables u n c o) ≡ abandon (key_tables s n c o)
+  pub abandon_unpaid : {f : Told} → stopped f u ≡ billing (links 1) s → stopped f (key_tables u n c o) ≡ abandon (key_tables s n c o)
   unfolding abandon
-  abandon_unpaid h = then_stop _ _ _ (through_stop _ _ _ _ (charged (links 1)) _ h)
+  abandon_unpaid h = then_stop _ _ _ (through_stop _ _ _ _ (billing (links 1)) _ h)
 
-  pub abandon_new : {c' : List ℕ} → going tt u ≡ charged (links 1) s → c' ≡ put_cells c u.counts.constants 0 0 →
+  pub abandon_new : {c' : List ℕ} → going tt u ≡ billing (links 1) s → c' ≡ put_cells c u.counts.constants 0 0 →
       going u.counts.constants (key_tables (with_constants (u.counts.constants + 1) u) n c' o) ≡ abandon (key_tables s n c o)
   unfolding abandon
-  abandon_new h g = then_on _ _ _ (through_on _ _ _ _ (charged (links 1)) _ h) (rw g)
+  abandon_new h g = then_on _ _ _ (through_on _ _ _ _ (billing (links 1)) _ h) (rw g)
 
 -- ---- either
 
 module _ (k : Key) (s : Store) (n c o : List ℕ) {t : Bool} (h : t ≡ retains s.budget.limits k) {y : Run Told KeyTables ℕ} where
-  pub retain_kept : t ≡ true → y ≡ keep k (key_tables s n c o) → y ≡ retain k (key_tables s n c o)
-  unfolding retain
+  pub retain_kept : t ≡ true → y ≡ keep_key k (key_tables s n c o) → y ≡ retain_key k (key_tables s n c o)
+  unfolding retain_key
   retain_kept e j = rw (← h, e) j
 
-  pub retain_new : t ≡ false → y ≡ abandon (key_tables s n c o) → y ≡ retain k (key_tables s n c o)
-  unfolding retain
+  pub retain_new : t ≡ false → y ≡ abandon (key_tables s n c o) → y ≡ retain_key k (key_tables s n c o)
+  unfolding retain_key
   retain_new e j = rw (← h, e) j
 
 -- ---- the call
@@ -127,9 +127,9 @@ module _ (s : Store) (t : List ℤ) {u : Store} {t' : List ℤ} where
       let q = came _ _ _ _ m (marks s t) p.from in
       (ap (λ (v : Marks). v.header.counts.constants) (p.is ∙ q.is), ap (λ (v : Marks). v.header.counts.keys) (p.is ∙ q.is))
 
-  named_rows : (m : Metered Stop Budget (Unit {0})) → going tt (marks u t') ≡ zoom (λ (v : Marks). v.header) (λ s v. marks s v.table) (charged m) (marks s t) → SameRows u s
+  named_rows : (m : Metered Stop Budget (Unit {0})) → going tt (marks u t') ≡ zoom (λ (v : Marks). v.header) (λ s v. marks s v.table) (billing m) (marks s t) → SameRows u s
   named_rows m h =
-      let p = came _ _ _ _ (charged m) (marks s t) h in
+      let p = came _ _ _ _ (billing m) (marks s t) h in
       let e = ap (λ (v : Marks). v.header.counts) p.is ∙ charged_counts m s p.from in
       (ap (λ (n : Counts). n.constants) e, ap (λ (n : Counts). n.keys) e)
 
@@ -146,30 +146,30 @@ wider (Err y) w n c o t = refl
 
 -- what the four tests tell
 pub record Passed (k : Key) (s : Store) (n c o : List ℕ) (t : List ℤ) : Type 0 where
-  pub sized : sizes (length n) (length c) (length o) (length t) ≡ true
+  pub sized : sized (length n) (length c) (length o) (length t) ≡ true
   pub short : leb (length (bytes_of k)) 64 ≡ true
   pub opened : admits s.phase ≡ true
   pub room : spacious s.counts ≡ true
 
-pub passed : (k : Key) (s : Store) (n c o : List ℕ) (t : List ℤ) {sized opened room : Bool} {text : List ℕ} → sized ≡ sizes (length n) (length c) (length o) (length t) → sized ≡ true →
+pub passed : (k : Key) (s : Store) (n c o : List ℕ) (t : List ℤ) {sized opened room : Bool} {text : List ℕ} → sized ≡ sized (length n) (length c) (length o) (length t) → sized ≡ true →
     text ≡ bytes_of k → length text ≤ 64 → opened ≡ admits s.phase → opened ≡ true → room ≡ spacious s.counts → room ≡ true → Passed k s n c o t
 passed k s n c o t h₁ e₁ h₂ e₂ h₃ e₃ h₄ e₄ = record { sized = sym h₁ ∙ e₁; short = le-leb (length (bytes_of k)) 64 (rw h₂ at e₂); opened = sym h₃ ∙ e₃; room = sym h₄ ∙ e₄ }
 
 module _ {k : Key} {s : Store} {n c o : List ℕ} {t : List ℤ} (g : Passed k s n c o t) where
-  admitted : {y : Run Told Tables ℕ} → y ≡ (in_header (charged (work 1)) >> in_marks (classify k) >> in_keys (retain k)) (tables s n c o t) → y ≡ constant_call k (tables s n c o t)
+  admitted : {y : Run Told Tables ℕ} → y ≡ (in_header (billing (work 1)) >> in_marks (classify k) >> in_keys (retain_key k)) (tables s n c o t) → y ≡ constant_call k (tables s n c o t)
   unfolding constant_call
   admitted h = rw (g.sized, g.short, g.opened, g.room) h
 
-  pub call_unpaid : (r : Refusal) {u : Store} → stopped (told r) u ≡ charged (work 1) s → stopped (told r) (tables u n c o t) ≡ constant_call k (tables s n c o t)
-  call_unpaid r p = admitted (then_stop _ _ _ (through_stop _ _ _ _ (charged (work 1)) _ p))
+  pub call_unpaid : (r : Refusal) {u : Store} → stopped (told r) u ≡ billing (work 1) s → stopped (told r) (tables u n c o t) ≡ constant_call k (tables s n c o t)
+  call_unpaid r p = admitted (then_stop _ _ _ (through_stop _ _ _ _ (billing (work 1)) _ p))
 
-  module _ {u : Store} (p : going tt u ≡ charged (work 1) s) where
+  module _ {u : Store} (p : going tt u ≡ billing (work 1) s) where
     pub call_marks : u.counts.thresholds + 3 ≤ length t
     call_marks = rw (charged_counts (work 1) s p) (omega (arith, (room_yes s.counts g.room).1.1, (sizes_yes (length n) (length c) (length o) (length t) g.sized).3))
 
     module _ {v : Store} {t' : List ℤ} where
       pub call_unread : (r : Refusal) → stopped (told r) (marks v t') ≡ classify k (marks u t) → stopped (told r) (tables v n c o t') ≡ constant_call k (tables s n c o t)
-      call_unread r q = admitted (then_on _ _ _ (through_on _ _ _ _ (charged (work 1)) _ p) (then_stop _ _ _ (through_stop _ _ _ _ (classify k) _ q)))
+      call_unread r q = admitted (then_on _ _ _ (through_on _ _ _ _ (billing (work 1)) _ p) (then_stop _ _ _ (through_stop _ _ _ _ (classify k) _ q)))
 
       module _ (q : going tt (marks v t') ≡ classify k (marks u t)) where
         pub call_room : (v.counts.constants ≤ 1024) × ((v.counts.keys ≤ 1024) × (length (bytes_of k) ≤ 64))
@@ -179,6 +179,6 @@ module _ {k : Key} {s : Store} {n c o : List ℕ} {t : List ℤ} (g : Passed k s
             let h = room_yes s.counts g.room in
             (rw (a.0, b) (omega (arith, h.0)), (rw (a.1, b) (omega (arith, h.1.0)), leb-true (length (bytes_of k)) 64 g.short))
 
-        pub call_id : (r : Result ℕ Refusal) (w : Store) (n' c' o' : List ℕ) → replied r (key_tables w n' c' o') ≡ retain k (key_tables v n c o) → replied r (tables w n' c' o' t') ≡ constant_call k (tables s n c o t)
+        pub call_id : (r : Result ℕ Refusal) (w : Store) (n' c' o' : List ℕ) → replied r (key_tables w n' c' o') ≡ retain_key k (key_tables v n c o) → replied r (tables w n' c' o' t') ≡ constant_call k (tables s n c o t)
         call_id r w n' c' o' j =
-            admitted (then_on _ _ _ (through_on _ _ _ _ (charged (work 1)) _ p) (then_on _ _ _ (through_on _ _ _ _ (classify k) _ q) (wider r w n' c' o' t' ∙ through_is _ _ _ _ (retain k) (tables v n c o t') j)))
+            admitted (then_on _ _ _ (through_on _ _ _ _ (billing (work 1)) _ p) (then_on _ _ _ (through_on _ _ _ _ (classify k) _ q) (wider r w n' c' o' t' ∙ through_is _ _ _ _ (retain_key k) (tables v n c o t') j)))

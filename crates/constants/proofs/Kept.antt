@@ -34,9 +34,9 @@ use Rattle.keys.proofs.KeyOrder.{total_keys}
 use Rattle.keys.proofs.KeyOrder as keys
 use Rattle.store.specs.declared.Store.{Store}
 use Rattle.store.specs.Store.{with_constants, with_keys}
-use Rattle.store.specs.Calls.{open?, charged, Marks, marks, entering}
+use Rattle.store.specs.Calls.{open?, billing, Marks, marks, entering}
 use Rattle.store.proofs.Frame.{spent_none, Spends, spends_work, spends_links, spends_bytes, spends_then, spends_metered, Charging, charging_more, Marking, ending_ends, entering_left, Limited, limited, pays}
-use Rattle.constants.specs.Constant.{bytes_of, retains, classify, KeyTables, key_tables, kind_of, payload_of, add_key, add_large, cost, settle, keep, abandon, retain, Tables, tables, in_marks, in_keys, in_header, sizes, spacious, constant_call}
+use Rattle.constants.specs.Constant.{bytes_of, retains, classify, KeyTables, key_tables, kind_cell, payload_cell, add_key, add_large, cost, settle, keep_key, abandon, retain_key, Tables, tables, in_marks, in_keys, in_header, sized, spacious, constant_call}
 use Rattle.constants.proofs.CodeLaws.{sizes_yes, room_yes}
 use Rattle.constants.proofs.Keyed.{Proper, Keyed, keyed_large, keyed_key, key_back, old_kind, old_payload, old_key, proper_bytes, retained_new, one_id}
 use Rattle.constants.proofs.Steps.{Besides, besides_of, besides_none, besides_more, besides_charge, charge_counts, besides_marks, marks_constants, marks_keys}
@@ -119,7 +119,7 @@ classify_marks : (k : Key) (t : Marks) → Rises t.header.counts.thresholds t.ta
     Ends (Classified k t) (Unclassified k t) (classify k t)
 classify_marks (number v) t r g = number_marks v t r g
 classify_marks (name s) t r g =
-    ends_through (λ u. u.header) (λ u h. marks h u.table) (λ u h. marks h u.table) (λ e. e) (charged (bytes (length s))) t (pays (spends_bytes (length s)) t.header)
+    ends_through (λ u. u.header) (λ u h. marks h u.table) (λ u h. marks h u.table) (λ e. e) (billing (bytes (length s))) t (pays (spends_bytes (length s)) t.header)
     (λ _ u c. (charge_marks t c, name_marked s t r c, tt))
     (λ e u c. (c.0, charge_marks t c.1, name_marked s t r c.1))
 
@@ -143,7 +143,7 @@ pub record Given (k : Key) (retained : Bool) (n : ℕ) (names cells order : List
   pub kinds : (j : ℕ) → j < n → kind_at cells' j ≡ kind_at cells j
   pub payloads : (j : ℕ) → j < n → payload_at cells' j ≡ payload_at cells j
   pub keys : (j : ℕ) → j < n → key_at names' cells' j ≡ key_at names cells j
-  -- the tables have the sizes that they had
+  -- the tables have the sized that they had
   pub names_size : length names' ≡ length names
   pub cells_size : length cells' ≡ length cells
   pub order_size : length order' ≡ length order
@@ -172,18 +172,18 @@ module _ (k : Key) (n m : ℕ) (names cells order : List ℕ) (w : Keyed n m nam
 
   module _ (r : Room n m names cells order) where
     given_new : Proper k → (low : ℕ) → search.Ends (probe names cells order k) m (absent low) →
-        Given k true n names cells order n (n + 1) (m + 1) (put_name names n (bytes_of k)) (put_cells cells n (kind_of k) (payload_of k)) (inserted order low m n)
+        Given k true n names cells order n (n + 1) (m + 1) (put_name names n (bytes_of k)) (put_cells cells n (kind_cell k) (payload_cell k)) (inserted order low m n)
     given_new proper low h = record {
       keyed = keyed_key n m names cells order w r.pair k proper r.bytes r.place low h;
       numbered = newly refl refl;
       within = omega arith;
       kept = λ _. (retained_new cells n k r.pair, key_back names cells n k proper r.pair r.bytes);
       large = λ e. let z : ◌≡◌ {A = ℕ} 0 1 = cc in absurd (omega arith);
-      kinds = λ j l. old_kind cells n (kind_of k) (payload_of k) j l;
-      payloads = λ j l. old_payload cells n (kind_of k) (payload_of k) j l;
-      keys = λ j l. old_key cells n (kind_of k) (payload_of k) j l names (bytes_of k) (proper_bytes k proper);
+      kinds = λ j l. old_kind cells n (kind_cell k) (payload_cell k) j l;
+      payloads = λ j l. old_payload cells n (kind_cell k) (payload_cell k) j l;
+      keys = λ j l. old_key cells n (kind_cell k) (payload_cell k) j l names (bytes_of k) (proper_bytes k proper);
       names_size = length-sets names (64 * n) (bytes_of k);
-      cells_size = length-sets cells (2 * n) (kind_of k ∷ payload_of k ∷ []);
+      cells_size = length-sets cells (2 * n) (kind_cell k ∷ payload_cell k ∷ []);
       order_size = inserted_length 0 order low m n;
     }
 
@@ -202,7 +202,7 @@ module _ (k : Key) (n m : ℕ) (names cells order : List ℕ) (w : Keyed n m nam
       order_size = refl;
     }
 
--- ---- `keep` and `abandon`
+-- ---- `keep_key` and `abandon`
 
 abbrev pub KeyedIn : KeyTables → Type 0
 KeyedIn t = Keyed t.header.counts.constants t.header.counts.keys t.names t.constants t.order
@@ -229,11 +229,11 @@ abbrev Sought : Key → KeyTables → Place → Type 0
 Sought k t = search.Ends (probe t.names t.constants t.order k) t.header.counts.keys
 
 sought : (k : Key) (t : KeyTables) → KeyedIn t →
-    Ends (λ p s. Charging t.header s × Sought k t p) (λ e s. Limited e × Charging t.header s) (charged (metered (seek_key t.names t.constants t.order t.header.counts.keys k)) t.header)
+    Ends (λ p s. Charging t.header s × Sought k t p) (λ e s. Limited e × Charging t.header s) (billing (metered (seek_key t.names t.constants t.order t.header.counts.keys k)) t.header)
 unfolding seek_key
 sought k t w = ends_as (ends_both (pays (spends_metered (seek_lives _ _ _ _)) t.header) (with_value _ (value.at t.header))) (λ p s h. h) (λ e s h. h.0)
   where
-    value : Ensures (Sought k t) (charged (metered (seek_key t.names t.constants t.order t.header.counts.keys k)))
+    value : Ensures (Sought k t) (billing (metered (seek_key t.names t.constants t.order t.header.counts.keys k)))
     value = by_through _ _ _ _ _ (by_through _ _ _ _ _ (by_through _ _ _ _ _ (keys.search_complete t.names t.constants t.order t.header.counts.keys k w.sorted)))
 
 spends_cost : (n : ℕ) → Spends (cost n)
@@ -254,7 +254,7 @@ module _ (k : Key) (t : KeyTables) (w : KeyedIn t) {s : Store} (c : Charging t.h
       where
         answers : Answers k true t s.counts.constants
             (key_tables (with_keys (s.counts.keys + 1) (with_constants (s.counts.constants + 1) s)) (put_name t.names s.counts.constants (bytes_of k))
-            (put_cells t.constants s.counts.constants (kind_of k) (payload_of k)) (inserted t.order low s.counts.keys s.counts.constants))
+            (put_cells t.constants s.counts.constants (kind_cell k) (payload_cell k)) (inserted t.order low s.counts.keys s.counts.constants))
         answers = record {
           constants = rw (charge_counts c) (given_new k _ _ _ _ _ w r proper low h);
           thresholds = rw (charge_counts c);
@@ -280,19 +280,19 @@ module _ (k : Key) (proper : Proper k) (t : KeyTables) (w : KeyedIn t) (r : Room
       (λ _ u d. answers_new k t w (charging_more c d) r proper low h)
       (λ e u d. refuses t (d.0, charging_more c d.1))
 
-  pub keep_keeps : Ends (Answers k true t) (Refuses t) (keep k t)
-  unfolding keep
+  pub keep_keeps : Ends (Answers k true t) (Refuses t) (keep_key k t)
+  unfolding keep_key
   keep_keeps = on_bind _ _ _ _ _ (settle k t.header.counts.keys) t (sought k t w) (λ p s h. settled h.0 p h.1) (λ e s h. refuses t h)
 
 pub abandon_keeps : (k : Key) (t : KeyTables) → KeyedIn t → RoomIn t → Ends (Answers k false t) (Refuses t) (abandon t)
 unfolding abandon
 abandon_keeps k t w r = on_then _ _ _ _ _ add_large t (pays (spends_links 1) t.header) (λ _ s c. answers_large k t w c r) (λ e s c. refuses t c)
 
-retain_keeps : (k : Key) → Proper k → (t : KeyTables) → KeyedIn t → RoomIn t → Ends (Answers k (retains t.header.budget.limits k) t) (Refuses t) (retain k t)
-unfolding retain
+retain_keeps : (k : Key) → Proper k → (t : KeyTables) → KeyedIn t → RoomIn t → Ends (Answers k (retains t.header.budget.limits k) t) (Refuses t) (retain_key k t)
+unfolding retain_key
 retain_keeps k proper t w r = go (retains t.header.budget.limits k)
   where
-    go : (b : Bool) → Ends (Answers k b t) (Refuses t) (cond b (keep k t) (abandon t))
+    go : (b : Bool) → Ends (Answers k b t) (Refuses t) (cond b (keep_key k t) (abandon t))
     go true = keep_keeps k proper t w r
     go false = abandon_keeps k t w r
 
@@ -386,16 +386,16 @@ module _ (k : Key) (t : Tables) where
 module _ (k : Key) (typed : Typed k) (t : Tables) (keyed : Keyed t.header.counts.constants t.header.counts.keys t.names t.constants t.order) (rises : Rises t.header.counts.thresholds t.thresholds) where
   -- the last step: the key is kept, or not
   last : Proper k → Room t.header.counts.constants t.header.counts.keys t.names t.constants t.order → {s : Store} {table : List ℤ} → Still k t s table → Surrounds k s.counts.thresholds table →
-      Ends (Accepted k t) (Declined k t) (in_keys (retain k) (tables s t.names t.constants t.order table))
+      Ends (Accepted k t) (Declined k t) (in_keys (retain_key k) (tables s t.names t.constants t.order table))
   last p room {s} h q =
-      ends_through _ _ _ _ (retain k) _ (retain_keeps k p (key_tables s t.names t.constants t.order) (rw (h.constants, h.keys) keyed) (rw (h.constants, h.keys) room)) (λ id v a. accepted k t h q a)
+      ends_through _ _ _ _ (retain_key k) _ (retain_keeps k p (key_tables s t.names t.constants t.order) (rw (h.constants, h.keys) keyed) (rw (h.constants, h.keys) room)) (λ id v a. accepted k t h q a)
       (λ e v r. declined_keys k t h e r)
 
   -- where the tests let it pass
-  admitted : sizes (length t.names) (length t.constants) (length t.order) (length t.thresholds) ≡ true → leb (length (bytes_of k)) 64 ≡ true → spacious t.header.counts ≡ true →
-      Ends (Accepted k t) (Declined k t) ((in_header (charged (work 1)) >> in_marks (classify k) >> in_keys (retain k)) t)
+  admitted : sized (length t.names) (length t.constants) (length t.order) (length t.thresholds) ≡ true → leb (length (bytes_of k)) 64 ≡ true → spacious t.header.counts ≡ true →
+      Ends (Accepted k t) (Declined k t) ((in_header (billing (work 1)) >> in_marks (classify k) >> in_keys (retain_key k)) t)
   admitted z l r =
-      on_then _ _ _ _ _ (in_marks (classify k) >> in_keys (retain k)) t (pays (spends_work 1) t.header) (λ _ s c. charged_once c) (λ e s c. declined k t e c.0 (still_charge k t (still_none k t rises) c.1))
+      on_then _ _ _ _ _ (in_marks (classify k) >> in_keys (retain_key k)) t (pays (spends_work 1) t.header) (λ _ s c. charged_once c) (λ e s c. declined k t e c.0 (still_charge k t (still_none k t rises) c.1))
     where
       lengths : (length t.names ≡ size.name_cells) × (length t.constants ≡ size.constant_cells) × (length t.order ≡ size.constants) × (length t.thresholds ≡ size.thresholds)
       lengths = sizes_yes _ _ _ _ z
@@ -406,9 +406,9 @@ module _ (k : Key) (typed : Typed k) (t : Tables) (keyed : Keyed t.header.counts
       room : Room t.header.counts.constants t.header.counts.keys t.names t.constants t.order
       room = record { bytes = omega (arith, lengths.0, counts.0); pair = omega (arith, lengths.1, counts.0); place = omega (arith, lengths.2, counts.1.0) }
 
-      charged_once : {s : Store} → Charging t.header s → Ends (Accepted k t) (Declined k t) ((in_marks (classify k) >> in_keys (retain k)) (tables s t.names t.constants t.order t.thresholds))
+      charged_once : {s : Store} → Charging t.header s → Ends (Accepted k t) (Declined k t) ((in_marks (classify k) >> in_keys (retain_key k)) (tables s t.names t.constants t.order t.thresholds))
       charged_once {s} c =
-          on_then _ _ _ _ _ (in_keys (retain k)) (tables s t.names t.constants t.order t.thresholds)
+          on_then _ _ _ _ _ (in_keys (retain_key k)) (tables s t.names t.constants t.order t.thresholds)
           (classify_marks k (marks s t.thresholds) (rw (charge_counts c) rises) (rw (charge_counts c) (omega (arith, lengths.3, counts.1.1))))
           (λ _ u h. last (proper k typed (leb-true _ _ l)) room (still_marks k t c h.0 h.1) h.2)
           (λ e u h. declined k t e h.0 (still_marks k t c h.1 h.2))
@@ -416,7 +416,7 @@ module _ (k : Key) (typed : Typed k) (t : Tables) (keyed : Keyed t.header.counts
   pub constant_keeps : Ends (Accepted k t) (Declined k t) (constant_call k t)
   unfolding constant_call
   constant_keeps =
-      ends_test (sizes (length t.names) (length t.constants) (length t.order) (length t.thresholds))
+      ends_test (sized (length t.names) (length t.constants) (length t.order) (length t.thresholds))
       (λ z.
       ends_test (leb (length (bytes_of k)) 64)
       (λ l. ends_test (open? t.header) (λ _. ends_test (spacious t.header.counts) (λ r. admitted z l r) (λ _. stops (declined_first k t rises _))) (λ _. stops (declined_first k t rises _)))

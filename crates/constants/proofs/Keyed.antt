@@ -31,7 +31,7 @@ use Rattle.lattice.specs.Constants.{Retained}
 use Rattle.keys.specs.Key.{Key, number, name, compare_keys, kind_at, payload_at, key_at, put_cells, put_name, probe, seek_key}
 use Rattle.keys.proofs.CodecLaws.{number_back, name_back, kind_back, payload_back, kind_kept, payload_kept, cells_kept, name_kept}
 use Rattle.keys.proofs.KeyOrder.{total_keys, Ordered, key_found, insert_keeps, write_keeps}
-use Rattle.constants.specs.Constant.{bytes_of, kind_of, payload_of}
+use Rattle.constants.specs.Constant.{bytes_of, kind_cell, payload_cell}
 
 -- a number of 32 bits, or a name of at most 64 bytes
 abbrev pub Proper : Key → Type 0
@@ -165,7 +165,7 @@ module _ (cells : List ℕ) (n kind payload i : ℕ) (h : i < n) where
 
 -- and its own key reads back
 pub key_back : (names cells : List ℕ) (n : ℕ) (k : Key) → Proper k → 2 * n + 2 ≤ length cells → 64 * n + 64 ≤ length names →
-    key_at (put_name names n (bytes_of k)) (put_cells cells n (kind_of k) (payload_of k)) n ≡ k
+    key_at (put_name names n (bytes_of k)) (put_cells cells n (kind_cell k) (payload_cell k)) n ≡ k
 key_back names cells n (number v) p c l = number_back names cells n c v p
 key_back names cells n (name s) p c l = name_back names cells n c s p (omega arith)
 
@@ -173,8 +173,8 @@ pub proper_bytes : (k : Key) → Proper k → length (bytes_of k) ≤ 64
 proper_bytes (number v) p = omega arith
 proper_bytes (name s) p = p
 
-pub retained_new : (cells : List ℕ) (n : ℕ) (k : Key) → 2 * n + 2 ≤ length cells → Retained (put_cells cells n (kind_of k) (payload_of k)) n
-retained_new cells n (number v) c = inl (kind_back cells n c 1 (payload_of (number v)))
+pub retained_new : (cells : List ℕ) (n : ℕ) (k : Key) → 2 * n + 2 ≤ length cells → Retained (put_cells cells n (kind_cell k) (payload_cell k)) n
+retained_new cells n (number v) c = inl (kind_back cells n c 1 (payload_cell (number v)))
 retained_new cells n (name s) c = inr (kind_back cells n c 2 (length s))
 
 module _ (n m : ℕ) (names cells order : List ℕ) (w : Keyed n m names cells order) (c : 2 * n + 2 ≤ length cells) where
@@ -226,16 +226,16 @@ module _ (n m : ℕ) (names cells order : List ℕ) (w : Keyed n m names cells o
     names₁ = put_name names n (bytes_of k)
 
     abbrev cells₁ : List ℕ
-    cells₁ = put_cells cells n (kind_of k) (payload_of k)
+    cells₁ = put_cells cells n (kind_cell k) (payload_cell k)
 
     abbrev order₁ : List ℕ
     order₁ = inserted order low m n
 
     kind_old : (i : ℕ) → i < n → kind_at cells₁ i ≡ kind_at cells i
-    kind_old i h = old_kind cells n (kind_of k) (payload_of k) i h
+    kind_old i h = old_kind cells n (kind_cell k) (payload_cell k) i h
 
     key_old : (i : ℕ) → i < n → key_at names₁ cells₁ i ≡ key_at names cells i
-    key_old i h = old_key cells n (kind_of k) (payload_of k) i h names (bytes_of k) (proper_bytes k proper)
+    key_old i h = old_key cells n (kind_cell k) (payload_cell k) i h names (bytes_of k) (proper_bytes k proper)
 
     -- a place of the longer order has the new id, or one that stood
     data From (p : ℕ) : Type 0 where
@@ -263,7 +263,7 @@ module _ (n m : ℕ) (names cells order : List ℕ) (w : Keyed n m names cells o
     sorted₁ : Ordered names₁ cells₁ order₁ (m + 1)
     sorted₁ =
         insert_keeps names₁ cells₁ order m k
-        (write_keeps names cells order m n (kind_of k) (payload_of k) (bytes_of k) (proper_bytes k proper) (λ i h e. omega (arith, w.inside i h)) w.sorted)
+        (write_keeps names cells order m n (kind_cell k) (payload_cell k) (bytes_of k) (proper_bytes k proper) (λ i h e. omega (arith, w.inside i h)) w.sorted)
         low n (
           ended.0,
           (λ i h. rw (key_old (get_or order i 0) (w.inside i (omega (arith, ended.0)))) (ended.1 i h)),
@@ -285,11 +285,11 @@ module _ (n m : ℕ) (names cells order : List ℕ) (w : Keyed n m names cells o
         go (yes b) = stays i (w.all i b (rw (kind_old i b) at r))
         go (no b) = let e : n ≡ i = omega arith in (low, omega (arith, ended.0), inserted_at 0 order low m n ended.0 o ∙ e)
 
-    kind_few : (x : Key) → kind_of x ≤ 2
+    kind_few : (x : Key) → kind_cell x ≤ 2
     kind_few (number v) = omega arith
     kind_few (name s) = omega arith
 
-    name_few : (x : Key) → Proper x → kind_of x ≡ 2 → payload_of x ≤ 64
+    name_few : (x : Key) → Proper x → kind_cell x ≡ 2 → payload_cell x ≤ 64
     name_few (number v) p e = absurd (omega arith)
     name_few (name s) p e = p
 
@@ -300,6 +300,6 @@ module _ (n m : ℕ) (names cells order : List ℕ) (w : Keyed n m names cells o
       held = λ p h. held₁ p (from p h);
       sorted = sorted₁;
       all = every₁;
-      kinds = kinds_more (kind_of k) (payload_of k) (kind_few k);
-      short = short_more (kind_of k) (payload_of k) (name_few k proper);
+      kinds = kinds_more (kind_cell k) (payload_cell k) (kind_few k);
+      short = short_more (kind_cell k) (payload_cell k) (name_few k proper);
     }

@@ -17,7 +17,7 @@ use Rattle.keys.specs.Key.{Key, number, name, put_cells, put_name, seek_key}
 use Rattle.store.specs.declared.Counts.{Counts}
 use Rattle.store.specs.declared.Store.{Store}
 use Rattle.store.specs.Store.{with_constants, with_keys}
-use Rattle.store.specs.Calls.{unless, open?, charged, Marks, marks, entering}
+use Rattle.store.specs.Calls.{unless, open?, billing, Marks, marks, entering}
 
 -- ---- the reader: 01, "The added reader"
 
@@ -33,7 +33,7 @@ retains l (name s) = leb (length s) l.symbol
 -- what classifying charges: "A name of n bytes charges n inspected bytes", a number "enters thresholds v−1, v, v+1 (those that fit)"
 abbrev pub classify : Key → Metered Told Marks (Unit {0})
 classify (number v) = entering (around v)
-classify (name s) = zoom (λ t. t.header) (λ s t. marks s t.table) (charged (bytes (length s)))
+classify (name s) = zoom (λ t. t.header) (λ s t. marks s t.table) (billing (bytes (length s)))
 
 -- ---- the tables of keys
 
@@ -47,23 +47,23 @@ abbrev pub key_tables : Store → List ℕ → List ℕ → List ℕ → KeyTabl
 key_tables s n c o = record { header = s; names = n; constants = c; order = o }
 
 abbrev pub paying : {A : Type 0} → Metered Stop Budget A → Metered Told KeyTables A
-paying m = zoom (λ t. t.header) (λ s t. key_tables s t.names t.constants t.order) (charged m)
+paying m = zoom (λ t. t.header) (λ s t. key_tables s t.names t.constants t.order) (billing m)
 
 -- a key's two cells: 1 and the number's cell, or 2 and the length of the name
-abbrev pub kind_of : Key → ℕ
-kind_of (number v) = 1
-kind_of (name s) = 2
+abbrev pub kind_cell : Key → ℕ
+kind_cell (number v) = 1
+kind_cell (name s) = 2
 
-abbrev pub payload_of : Key → ℕ
-payload_of (number v) = to_cell v
-payload_of (name s) = length s
+abbrev pub payload_cell : Key → ℕ
+payload_cell (number v) = to_cell v
+payload_cell (name s) = length s
 
 -- a retained constant: its cells, its bytes, and its place in the key order
 abbrev pub add_key : Key → ℕ → Metered Told KeyTables ℕ
 add_key k low t =
     let id = t.header.counts.constants in
     going id
-    (key_tables (with_keys (t.header.counts.keys + 1) (with_constants (id + 1) t.header)) (put_name t.names id (bytes_of k)) (put_cells t.constants id (kind_of k) (payload_of k))
+    (key_tables (with_keys (t.header.counts.keys + 1) (with_constants (id + 1) t.header)) (put_name t.names id (bytes_of k)) (put_cells t.constants id (kind_cell k) (payload_cell k))
     (inserted t.order low t.header.counts.keys id))
 
 -- one that is not retained: kind 0, and nothing else is kept of it
@@ -81,15 +81,15 @@ unfoldable pub settle : Key → ℕ → Place → Metered Told KeyTables ℕ
 settle k n (found i) = λ t. going (get_or t.order i 0) t
 settle k n (absent low) = paying (cost (n - low)) >> add_key k low
 
-unfoldable pub keep : Key → Metered Told KeyTables ℕ
-keep k t = (paying (metered (seek_key t.names t.constants t.order t.header.counts.keys k)) >>= settle k t.header.counts.keys) t
+unfoldable pub keep_key : Key → Metered Told KeyTables ℕ
+keep_key k t = (paying (metered (seek_key t.names t.constants t.order t.header.counts.keys k)) >>= settle k t.header.counts.keys) t
 
 unfoldable pub abandon : Metered Told KeyTables ℕ
 abandon = paying (links 1) >> add_large
 
 -- once it is classified, a key is kept or not
-unfoldable pub retain : Key → Metered Told KeyTables ℕ
-retain k t = cond (retains t.header.budget.limits k) (keep k t) (abandon t)
+unfoldable pub retain_key : Key → Metered Told KeyTables ℕ
+retain_key k t = cond (retains t.header.budget.limits k) (keep_key k t) (abandon t)
 
 -- ---- the call
 
@@ -113,8 +113,8 @@ abbrev pub in_header : {A : Type 0} → Metered Told Store A → Metered Told Ta
 in_header = zoom (λ t. t.header) (λ s t. tables s t.names t.constants t.order t.thresholds)
 
 -- 01, refusal 1: "a name store or other lent table of another size"
-abbrev pub sizes : ℕ → ℕ → ℕ → ℕ → Bool
-sizes names constants order thresholds = eqb names size.name_cells && (eqb constants size.constant_cells && (eqb order size.constants && eqb thresholds size.thresholds))
+abbrev pub sized : ℕ → ℕ → ℕ → ℕ → Bool
+sized names constants order thresholds = eqb names size.name_cells && (eqb constants size.constant_cells && (eqb order size.constants && eqb thresholds size.thresholds))
 
 -- 01, refusal 2: "1,024 constants", "4,096 thresholds (`constant` and `seed_interval` need at most 4,088 standing)"
 abbrev pub spacious : Counts → Bool
@@ -122,8 +122,8 @@ spacious n = ltb n.constants size.constants && (ltb n.keys size.constants && leb
 
 unfoldable pub constant_call : Key → Metered Told Tables ℕ
 constant_call k =
-    unless (λ t. sizes (length t.names) (length t.constants) (length t.order) (length t.thresholds)) Shape
+    unless (λ t. sized (length t.names) (length t.constants) (length t.order) (length t.thresholds)) Shape
     (unless (λ t. leb (length (bytes_of k)) size.name) Shape
     (unless (λ t. open? t.header) Closed
     (unless (λ t. spacious t.header.counts) Full
-    (in_header (charged (work 1)) >> in_marks (classify k) >> in_keys (retain k)))))
+    (in_header (billing (work 1)) >> in_marks (classify k) >> in_keys (retain_key k)))))

@@ -7,7 +7,7 @@ ghost use Rattle.limits.specs.Metered.{answered, going};
 ghost use Rattle.limits.specs.Refusal.{replied};
 ghost use Rattle.store.specs.Calls.{marks};
 ghost use Rattle.keys.specs.Key.{key_of};
-ghost use Rattle.constants.specs.Constant.{bytes_of, retains, kind_of, payload_of, classify, cost, sizes, spacious, key_tables, add_key, settle, keep, abandon, retain, tables, constant_call};
+ghost use Rattle.constants.specs.Constant.{bytes_of, retains, kind_cell, payload_cell, classify, cost, sized, spacious, key_tables, add_key, settle, keep_key, abandon, retain_key, tables, constant_call};
 ghost use Rattle.search.specs.Seek.{absent};
 
 use keys::Key;
@@ -16,7 +16,7 @@ use store::{Counts, Store};
 
 // The tables' sizes.
 fn sized(names: usize, constants: usize, order: usize, thresholds: usize) -> bool
-    ensures { result ≡ sizes names constants order thresholds }
+    ensures { result ≡ sized names constants order thresholds }
 {
     names == sizes::NAME_CELLS
         && constants == sizes::CONSTANT_CELLS
@@ -46,8 +46,8 @@ fn bytes_of<'a>(key: Key<'a>) -> &'a [u8]
 // The two cells of a key.
 fn cells_of(key: Key<'_>) -> (u32, u32)
     requires { length (bytes_of (key_of key)) ≤ size.name }
-    ensures kind { result.0 ≡ kind_of (key_of key.entry) }
-    ensures payload { result.1 ≡ payload_of (key_of key.entry) }
+    ensures kind { result.0 ≡ kind_cell (key_of key.entry) }
+    ensures payload { result.1 ≡ payload_cell (key_of key.entry) }
 {
     match key {
         Key::Number(value) => (1, cells::to_cell(value)),
@@ -121,7 +121,7 @@ fn enroll(
 }
 
 // A retained key: its old id, or a new constant in its place of the key order.
-fn keep(
+fn keep_key(
     store: &mut Store,
     names: &mut [u8],
     constants: &mut [u32],
@@ -129,7 +129,7 @@ fn keep(
     key: Key<'_>,
 ) -> Result<usize, Refusal>
     requires { (store.old.counts.constants ≤ size.constants) × ((store.old.counts.keys ≤ size.constants) × (length (bytes_of (key_of key)) ≤ size.name)) }
-    ensures { replied result (key_tables store.new names.new constants.new order.new) ≡ keep (key_of key.entry) (key_tables store.old names.old constants.old order.old) }
+    ensures { replied result (key_tables store.new names.new constants.new order.new) ≡ keep_key (key_of key.entry) (key_tables store.old names.old constants.old order.old) }
 {
     let mut meter = store.budget.meter();
     let sought = keys::seek_key(names, constants, order, store.counts.keys, key, &mut meter);
@@ -153,7 +153,7 @@ fn abandon(store: &mut Store, constants: &mut [u32]) -> Result<usize, Refusal>
 }
 
 // Once it is classified, a key is kept or not.
-fn retain(
+fn retain_key(
     store: &mut Store,
     names: &mut [u8],
     constants: &mut [u32],
@@ -161,10 +161,10 @@ fn retain(
     key: Key<'_>,
 ) -> Result<usize, Refusal>
     requires { (store.old.counts.constants ≤ size.constants) × ((store.old.counts.keys ≤ size.constants) × (length (bytes_of (key_of key)) ≤ size.name)) }
-    ensures { replied result (key_tables store.new names.new constants.new order.new) ≡ retain (key_of key.entry) (key_tables store.old names.old constants.old order.old) }
+    ensures { replied result (key_tables store.new names.new constants.new order.new) ≡ retain_key (key_of key.entry) (key_tables store.old names.old constants.old order.old) }
 {
     if retained(store, key) {
-        keep(store, names, constants, order, key)
+        keep_key(store, names, constants, order, key)
     } else {
         abandon(store, constants)
     }
@@ -195,5 +195,5 @@ pub fn constant(
     }
     store.pay(Resource::Work, 1)?;
     classify(store, thresholds, key)?;
-    retain(store, names, constants, order, key)
+    retain_key(store, names, constants, order, key)
 }

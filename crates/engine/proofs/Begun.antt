@@ -24,9 +24,9 @@ use Rattle.thresholds.proofs.Sorted.{Rises, Has, Kept, enter_keeps}
 use Rattle.slots.specs.Slots.{Slots, slots, total, copies}
 use Rattle.slots.proofs.Live.{Formed, Held, copies_ends}
 use Rattle.limits.proofs.Charging.{charge_ends}
-use Rattle.rounds.proofs.Copied.{Same, copies_same}
+use Rattle.slots.proofs.Copied.{Same, copies_same}
 use Rattle.rounds.proofs.Live.{Room}
-use Rattle.engine.specs.Run.{enter_ends, Start, start, charging, clearing, seeded, Beginning, beginning, in_start, begin}
+use Rattle.engine.specs.Run.{enter_ends, Start, start, paying_growth, clearing, seeded, Beginning, beginning, in_start, begin}
 
 -- ---- thresholds
 
@@ -98,12 +98,12 @@ module _ (seeds : List ℕ) (n : ℕ) (good : (a : ℕ) → a < n → Good (valu
   unfolding seeded
   seeded_ends s r f q =
       on_then (λ u. slots (meter_of u.budget) u.current) (λ u v. start (with_meter v.meter u.budget) v.rows u.growth) (λ u v. start (with_meter v.meter u.budget) v.rows u.growth) (λ x. x)
-      (copies seeds 0 n) (charging n >> clearing n) s (copied (slots (meter_of s.budget) s.current) r f q)
+      (copies seeds 0 n) (paying_growth n >> clearing n) s (copied (slots (meter_of s.budget) s.current) r f q)
       (λ _ u p. charged (start (with_meter u.meter s.budget) u.rows s.growth) p) (λ _ u p. p)
     where
-      charged : (t : Start) → Sown seeds n e t.budget.statistics.entries t.current → Ends (λ _ u. Sown seeds n e u.budget.statistics.entries u.current) (λ _ u. u.budget.statistics.entries ≡ e) ((charging n >> clearing n) t)
+      charged : (t : Start) → Sown seeds n e t.budget.statistics.entries t.current → Ends (λ _ u. Sown seeds n e u.budget.statistics.entries u.current) (λ _ u. u.budget.statistics.entries ≡ e) ((paying_growth n >> clearing n) t)
       charged t p =
-          ends_then {P = λ _ u. Sown seeds n e u.budget.statistics.entries u.current} {Q = λ _ u. u.budget.statistics.entries ≡ e} (charging n) (clearing n) t
+          ends_then {P = λ _ u. Sown seeds n e u.budget.statistics.entries u.current} {Q = λ _ u. u.budget.statistics.entries ≡ e} (paying_growth n) (clearing n) t
           (ends_through (λ u. u) (λ _ u. u) (λ _ u. start (released (total u.current n) u.budget) u.current u.growth) (λ x. x)
           {P = λ _ u. Sown seeds n e u.budget.statistics.entries u.current} {Q = λ _ u. Sown seeds n e u.budget.statistics.entries u.current} _ t
           (ends_through (λ u. u.budget) (λ u b. start b u.current u.growth) (λ u b. start b u.current u.growth) (λ x. x) (work n) t (charge_ends Work n t.budget) (λ _ b z. rw z p) (λ _ b z. rw z.1 p))

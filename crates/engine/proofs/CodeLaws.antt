@@ -7,7 +7,7 @@ use Rattle.limits.specs.declared.Stop.{Stop}
 use Rattle.limits.specs.declared.Budget.{Budget}
 use Rattle.limits.specs.Metered.{answered}
 use Rattle.slots.specs.Slots.{copies}
-use Rattle.rounds.specs.Lent.{in_budget}
+use Rattle.slots.specs.Lent.{in_budget}
 use Rattle.rounds.proofs.CodeLaws.{answered_budget}
 use Rattle.engine.specs.Run.{Start, start, copying}
 

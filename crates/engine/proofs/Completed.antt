@@ -6,10 +6,11 @@ use mathlib.Core.Bool.{Bool, false}
 use mathlib.Core.List.{List}
 use borrow.Author.Tests.{eq-eqb, ne_eqb}
 use lib.IntN.{ℤ}
+use Rattle.rows.specs.Row.{moved}
 use Rattle.limits.specs.Metered.{Run, going, stopped}
 use Rattle.limits.proofs.Ends.{Ends, completes, stops, ends_as, ends_through, on_bind, on_then, in_some_way, where_going}
 use Rattle.rounds.specs.declared.Course.{Course}
-use Rattle.rounds.specs.Round.{Given, Standing, standing, course, candidates, moved}
+use Rattle.rounds.specs.Round.{Given, Standing, standing, course, candidates}
 use Rattle.passes.specs.Pass.{Ascent, ascent, pass, ascend}
 use Rattle.passes.proofs.Ascending.{ascend_ends}
 use Rattle.results.specs.Result.{close, taking, last_round, Ending, ending, closing, last}

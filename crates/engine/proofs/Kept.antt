@@ -15,7 +15,7 @@ use Rattle.thresholds.specs.Thresholds.{Entry, entry, enter}
 use Rattle.thresholds.proofs.Outcomes.{Leaves, standing, new, refused, enter_leaves}
 use Rattle.slots.specs.Slots.{slots, total, copies}
 use Rattle.limits.proofs.Charging.{charge_ends}
-use Rattle.engine.specs.Run.{enter_ends, Start, start, charging, clearing, seeded, Beginning, beginning, in_start, begin}
+use Rattle.engine.specs.Run.{enter_ends, Start, start, paying_growth, clearing, seeded, Beginning, beginning, in_start, begin}
 
 -- ---- both ends
 
@@ -47,10 +47,10 @@ unfolding seeded
 seeds_keep seeds n s =
     on_then (λ t. slots (meter_of t.budget) t.current) (λ t u. start (with_meter u.meter t.budget) u.rows t.growth)
     (λ t u. start (with_meter u.meter t.budget) u.rows t.growth) (λ e. e)
-    (copies seeds 0 n) (charging n >> clearing n) s (in_some_way (copies seeds 0 n (slots (meter_of s.budget) s.current)))
+    (copies seeds 0 n) (paying_growth n >> clearing n) s (in_some_way (copies seeds 0 n (slots (meter_of s.budget) s.current)))
     (λ _ u _. charged (start (with_meter u.meter s.budget) u.rows s.growth) refl) (λ _ _ _. tt)
   where
-    charged : (t : Start) → t.budget.limits ≡ s.budget.limits → Ends (λ _ u. u.budget.limits ≡ s.budget.limits) (λ _ _. Unit {0}) ((charging n >> clearing n) t)
+    charged : (t : Start) → t.budget.limits ≡ s.budget.limits → Ends (λ _ u. u.budget.limits ≡ s.budget.limits) (λ _ _. Unit {0}) ((paying_growth n >> clearing n) t)
     charged t h =
         on_then (λ u. u) (λ _ u. u) (λ _ u. start (released (total u.current n) u.budget) u.current u.growth) (λ e. e)
         (zoom (λ u. u.budget) (λ b u. start b u.current u.growth) (work n)) (clearing n) t

@@ -24,7 +24,7 @@ use Rattle.store.specs.declared.Store.{Store}
 use Rattle.store.specs.Store.{admits}
 use Rattle.rounds.specs.Round.{blank}
 use Rattle.engine.specs.Run.{Beginning, beginning, begin, Progress, progress, finish}
-use Rattle.engine.specs.Call.{Read, Tables, tables, sizes, result_sizes, spacious, given_of, ended_in, concluded, finished, ran_on, run_call}
+use Rattle.engine.specs.Call.{Read, Tables, tables, sized, results_sized, spacious, given_of, ended_in, concluded, finished, ran_on, run_call}
 use Rattle.engine.proofs.Kept.{begin_grown}
 
 -- ---- the first cells of a table in another
@@ -69,13 +69,13 @@ module _ (r : Read) (s : Store) (before : List ℤ) (arguments slots : List ℕ)
 -- ---- the call
 
 module _ (r : Read) (s : Store) (marks : List ℤ) (arguments slots : List ℕ) {x y z f : Bool} where
-  pub run_on : {t : Tables} → x ≡ sizes (length r.nodes) (length r.constants) (length r.rules) (length r.seeds) (length marks) → x ≡ true → y ≡ result_sizes (length arguments) (length slots) → y ≡ true →
+  pub run_on : {t : Tables} → x ≡ sized (length r.nodes) (length r.constants) (length r.rules) (length r.seeds) (length marks) → x ≡ true → y ≡ results_sized (length arguments) (length slots) → y ≡ true →
       z ≡ admits s.phase → z ≡ true → f ≡ spacious s.counts → f ≡ true → t ≡ ran_on r (tables s marks arguments slots) → going tt t ≡ run_call r (tables s marks arguments slots)
   unfolding run_call
   run_on p a q b i c j e k = rw (← p, a, ← q, b, ← i, c, ← j, e, k)
 
 -- what the tests give the run behind them
-pub run_room : (nodes constants rules seeds thresholds : ℕ) (n : Counts) {x y : Bool} → x ≡ sizes nodes constants rules seeds thresholds → x ≡ true → y ≡ spacious n → y ≡ true →
+pub run_room : (nodes constants rules seeds thresholds : ℕ) (n : Counts) {x y : Bool} → x ≡ sized nodes constants rules seeds thresholds → x ≡ true → y ≡ spacious n → y ≡ true →
     (n.rules ≤ 256) × (n.thresholds + 2 ≤ thresholds)
 run_room nodes constants rules seeds thresholds n p a q b =
     let t : eqb thresholds size.thresholds ≡ true =

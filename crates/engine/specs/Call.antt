@@ -8,7 +8,7 @@ use Rattle.limits.specs.declared.Refusal.TheVariants.{Closed, Shape, Full}
 use Rattle.limits.specs.Refusal.{Told}
 use Rattle.limits.specs.Metered.{Run, going, stopped, Metered}
 use Rattle.limits.specs.Budget.{released}
-use Rattle.rows.specs.Row.{padded}
+use Rattle.rows.specs.Row.{padded, moved}
 use Rattle.thresholds.specs.Thresholds.{entry}
 use Rattle.store.specs.declared.Phase.{Phase}
 use Rattle.store.specs.declared.Phase.TheVariants.{Completed, Stopped}
@@ -18,7 +18,7 @@ use Rattle.store.specs.Store.{with_budget, with_thresholds, with_phase}
 use Rattle.store.specs.Calls.{unless, open?}
 use Rattle.slots.specs.Slots.{total}
 use Rattle.evaluation.specs.Evaluation.{input}
-use Rattle.rounds.specs.Round.{Given, given, blank, moved}
+use Rattle.rounds.specs.Round.{Given, given, blank}
 use Rattle.engine.specs.Run.{Beginning, beginning, begin, Progress, progress, finish}
 
 -- the tables that a run reads
@@ -44,12 +44,12 @@ tables s t a d = record { header = s; thresholds = t; arguments = a; slots = d }
 -- ---- refusals 1 and 2
 
 -- the lengths of expressions, constants, rules, seeds and thresholds
-abbrev pub sizes : ℕ → ℕ → ℕ → ℕ → ℕ → Bool
-sizes nodes constants rules seeds thresholds =
+abbrev pub sized : ℕ → ℕ → ℕ → ℕ → ℕ → Bool
+sized nodes constants rules seeds thresholds =
     eqb nodes size.node_cells && (eqb constants size.constant_cells && (eqb rules size.rule_cells && (eqb seeds size.argument_cells && eqb thresholds size.thresholds)))
 
-abbrev pub result_sizes : ℕ → ℕ → Bool
-result_sizes arguments slots = eqb arguments size.argument_cells && eqb slots size.bounds_cells
+abbrev pub results_sized : ℕ → ℕ → Bool
+results_sized arguments slots = eqb arguments size.argument_cells && eqb slots size.bounds_cells
 
 -- more rows than the tables have meet 2, and thresholds without room for both ends
 abbrev pub spacious : Counts → Bool
@@ -87,7 +87,7 @@ ran_on r t =
 
 unfoldable pub run_call : Read → Metered Told Tables (Unit {0})
 run_call r =
-    unless (λ t. sizes (length r.nodes) (length r.constants) (length r.rules) (length r.seeds) (length t.thresholds) && result_sizes (length t.arguments) (length t.slots)) Shape
+    unless (λ t. sized (length r.nodes) (length r.constants) (length r.rules) (length r.seeds) (length t.thresholds) && results_sized (length t.arguments) (length t.slots)) Shape
     (unless (λ t. open? t.header) Closed
     (unless (λ t. spacious t.header.counts) Full
     (λ t. going tt (ran_on r t))))

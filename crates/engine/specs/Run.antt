@@ -7,7 +7,7 @@ use Rattle.limits.specs.Metered.{going, Metered, ◌>>◌, on_stop, zoom}
 use Rattle.limits.specs.Budget.{work, released}
 use Rattle.limits.specs.Meter.{meter_of, with_meter}
 use Rattle.thresholds.specs.Thresholds.{Entry, entry, enter}
-use Rattle.store.specs.Store.{Context}
+use Rattle.limits.specs.Context.{Context}
 use Rattle.slots.specs.Slots.{slots, total, copies}
 use Rattle.widening.specs.Widening.{no_growth}
 use Rattle.rounds.specs.Round.{Given}
@@ -34,8 +34,8 @@ copying seeds n =
     zoom (λ s. slots (meter_of s.budget) s.current) (λ t s. start (with_meter t.meter s.budget) t.rows s.growth) (copies seeds 0 n)
 
 -- a unit of work for each argument's growth; the copies are dropped where this is stopped
-abbrev pub charging : ℕ → Metered Stop Start (Unit {0})
-charging n =
+abbrev pub paying_growth : ℕ → Metered Stop Start (Unit {0})
+paying_growth n =
     on_stop (λ s. start (released (total s.current n) s.budget) s.current s.growth)
     (zoom (λ s. s.budget) (λ b s. start b s.current s.growth) (work n))
 
@@ -44,7 +44,7 @@ clearing n s = going tt (start s.budget s.current (no_growth s.growth n))
 
 -- the seeds are the current values, and no side has grown
 unfoldable pub seeded : List ℕ → ℕ → Metered Stop Start (Unit {0})
-seeded seeds n = copying seeds n >> charging n >> clearing n
+seeded seeds n = copying seeds n >> paying_growth n >> clearing n
 
 -- the same with the thresholds
 pub record Beginning : Type 0 where

@@ -12,7 +12,7 @@ ghost use Rattle.rows.specs.Row.{padded};
 ghost use Rattle.thresholds.specs.Thresholds.{entry};
 ghost use Rattle.rounds.specs.Lent.{given_in};
 ghost use Rattle.engine.specs.Run.{enter_ends, start, seeded, beginning, begin, progress, ascend_and_end, finish};
-ghost use Rattle.engine.specs.Call.{read, tables, sizes, result_sizes, spacious, given_of, ended_in, concluded, ran_on, run_call};
+ghost use Rattle.engine.specs.Call.{read, tables, sized, results_sized, spacious, given_of, ended_in, concluded, ran_on, run_call};
 
 use evaluation::Input;
 use limits::{Budget, Refusal, Resource, Stop};
@@ -38,9 +38,9 @@ fn seed(
 ) -> Result<(), Stop>
     ensures { answered result (start budget.new current.new growth.new) ≡ seeded seeds.now positions (start budget.old current.old growth.old) }
 {
-    rounds::copy_in(seeds, current, positions, budget)?;
+    slots::copy_in(seeds, current, positions, budget)?;
     if let Err(stop) = budget.pay(Resource::Work, positions as u64) {
-        rounds::without_rows(current, positions, budget);
+        slots::without_rows(current, positions, budget);
         return Err(stop);
     }
     widening::clear_growth(growth, positions);
@@ -134,7 +134,7 @@ fn conclude(
     let mut budget = course.budget;
     match ran {
         Err(stop) => {
-            rounds::without_rows(current, positions, &mut budget);
+            slots::without_rows(current, positions, &mut budget);
             end(
                 store,
                 thresholds,
@@ -143,9 +143,9 @@ fn conclude(
             );
         }
         Ok(()) => {
-            rounds::move_rows(current, arguments, positions);
+            rows::move_rows(current, arguments, positions);
             move_cells(bounds, slots, sizes::BOUNDS_ROW * store.counts.rules);
-            rounds::without_rows(seeds, positions, &mut budget);
+            slots::without_rows(seeds, positions, &mut budget);
             end(store, thresholds, Phase::Completed, budget);
         }
     }
@@ -225,7 +225,7 @@ fn run_open(
 
 // The sizes of the tables that a run reads.
 fn is_sized(nodes: usize, constants: usize, rules: usize, seeds: usize, thresholds: usize) -> bool
-    ensures { result ≡ sizes nodes constants rules seeds thresholds }
+    ensures { result ≡ sized nodes constants rules seeds thresholds }
 {
     nodes == sizes::NODE_CELLS
         && constants == sizes::CONSTANT_CELLS
@@ -236,7 +236,7 @@ fn is_sized(nodes: usize, constants: usize, rules: usize, seeds: usize, threshol
 
 // The sizes of the result tables.
 fn is_result_sized(arguments: usize, slots: usize) -> bool
-    ensures { result ≡ result_sizes arguments slots }
+    ensures { result ≡ results_sized arguments slots }
 {
     arguments == sizes::ARGUMENT_CELLS && slots == sizes::BOUNDS_CELLS
 }

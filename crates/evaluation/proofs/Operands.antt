@@ -29,7 +29,7 @@ use Rattle.evaluation.specs.declared.Operand.{Operand}
 use Rattle.evaluation.specs.Evaluation.{Values}
 use Rattle.evaluation.specs.Operands.{operand, numeral, shown, sees, sees_both}
 -- for the crates above that have no lists
-pub use Rattle.lists.proofs.Seen.{seen_went, seen_broke, seen_exits}
+pub use Rattle.limits.proofs.Seen.{seen_went, seen_broke, seen_exits}
 
 -- ---- what is seen of a run
 

@@ -1,4 +1,5 @@
 -- What the code's answers are, over plain variables: one law for each way out of a step.
+use Rattle.expressions.specs.Places.{first_node}
 use Rattle.sizes.specs.Sizes as size
 use Prim.Native.Nat.{ℕ, zero, suc, ◌+◌, ◌*◌, ◌≤◌, ◌<◌}
 use native.Mathlib.Omega.{arith}
@@ -31,9 +32,9 @@ use Rattle.sizes.specs.Sizes.{node_row}
 use Rattle.nodes.specs.Node.{node_of, same_node, node_at, put_node}
 use Rattle.store.specs.declared.Store.{Store}
 use Rattle.store.specs.Store.{admits, with_budget, with_expressions}
-use Rattle.store.specs.Calls.{unless, charged as billed}
+use Rattle.store.specs.Calls.{unless, billing as billed}
 use Rattle.store.proofs.CodeLaws.{charged_counts}
-use Rattle.expressions.specs.Expression.{supported, deepest, valid, shared, first_node, seek_node, older, Tables, tables, paying, settle, share, expression_call}
+use Rattle.expressions.specs.Expression.{supported, deepest, valid, shared, seek_node, older, Tables, tables, paying, settle, share, expression_call}
 
 -- ---- the search: the place
 

@@ -20,7 +20,7 @@ use Rattle.nodes.specs.Node.{node_of, node_at, nesting_at, put_node, same_node}
 use Rattle.store.specs.declared.Counts.{Counts}
 use Rattle.store.specs.declared.Store.{Store}
 use Rattle.store.specs.Store.{with_expressions}
-use Rattle.store.specs.Calls.{unless, open?, charged}
+use Rattle.store.specs.Calls.{unless, open?, billing}
 
 -- 01, refusal 1: "division or remainder"
 abbrev pub ported : BinaryOp → Bool
@@ -75,11 +75,6 @@ unfoldable pub seek_node : List ℕ → Node → ℕ → ℕ → Metered Stop Me
 seek_node nodes e at zero = pure (absent at)
 seek_node nodes e at (suc n) = inner.work 1 >> cond (same_node (node_at nodes at) e) (pure (found at)) (seek_node nodes e (at + 1) n)
 
--- how many of n rows, from the row `at` on, come before the first that has these cells: all of them where none has
-unfoldable pub first_node : List ℕ → Node → ℕ → ℕ → ℕ
-first_node nodes e at zero = 0
-first_node nodes e at (suc n) = cond (same_node (node_at nodes at) e) 0 (suc (first_node nodes e (at + 1) n))
-
 -- "`expression` gives an equal older id except for Unknown"
 abbrev pub shared : Expression → Bool
 shared (Constant id) = true
@@ -102,7 +97,7 @@ abbrev pub tables : Store → List ℕ → Tables
 tables s n = record { header = s; nodes = n }
 
 abbrev pub paying : {A : Type 0} → Metered Stop Budget A → Metered Told Tables A
-paying m = zoom (λ t. t.header) (λ s t. tables s t.nodes) (charged m)
+paying m = zoom (λ t. t.header) (λ s t. tables s t.nodes) (billing m)
 
 -- the new row
 abbrev pub add_node : Expression → Metered Told Tables ℕ

@@ -1,1 +1,2 @@
 pub mod Expression
+pub mod Places

@@ -2,11 +2,12 @@
 #![tactic(auto)]
 
 ghost use Rattle.std.specs.Prelude.{◌≡◌, ◌+◌, ◌*◌, ◌≤◌, ◌<◌, MatchOption, length};
+ghost use Rattle.expressions.specs.Places.{first_node};
 ghost use Rattle.sizes.specs.Sizes as size;
 ghost use Rattle.limits.specs.Metered.{answered};
 ghost use Rattle.limits.specs.Refusal.{replied};
 ghost use Rattle.nodes.specs.Node.{same_node, node_at};
-ghost use Rattle.expressions.specs.Expression.{supported, child_nesting, deepest, valid, shared, first_node, seek_node, older, tables, share, expression_call};
+ghost use Rattle.expressions.specs.Expression.{supported, child_nesting, deepest, valid, shared, seek_node, older, tables, share, expression_call};
 
 use limits::{Meter, Refusal, Resource, Stop};
 use nodes::{BinaryOp, Expression, Node};

@@ -13,11 +13,11 @@ use Rattle.limits.proofs.Ends.{Ends, completes, stops, ends_pure, ends_test, end
 use Rattle.keys.specs.Key.{Key, number, name}
 use Rattle.nodes.specs.declared.Expression.{Expression}
 use Rattle.rules.proofs.RuleLaws.{SmallContext}
-use Rattle.store.specs.Store.{Context}
+use Rattle.limits.specs.Context.{Context}
 use Rattle.std.proofs.Common.{Some}
 use Rattle.store.specs.declared.Store.{Store}
 use Rattle.store.specs.Store.{with_context}
-use Rattle.store.specs.Calls.{open?, arity_of, first_of, context_call, work_call, argument_call}
+use Rattle.store.specs.Calls.{open?, arity_of, first_argument, context_call, work_call, argument_call}
 use Rattle.store.proofs.Frame.{spends_work, Charging, Limited, pays}
 use Rattle.constants.specs.Constant.{bytes_of, spacious, constant_call}
 use Rattle.constants.specs.Constant as constants
@@ -101,7 +101,7 @@ argument_keeps p i t r =
     ends_test (open? t.header)
     (λ _.
     ends_test (ltb p 64 && ltb p t.header.counts.predicates)
-    (λ _. ends_test (ltb i (arity_of t.predicates p)) (λ _. ends_pure (first_of t.predicates p + i) t.header (record { reached = r; stay = λ z h. h })) (λ _. stops (refused_none r _)))
+    (λ _. ends_test (ltb i (arity_of t.predicates p)) (λ _. ends_pure (first_argument t.predicates p + i) t.header (record { reached = r; stay = λ z h. h })) (λ _. stops (refused_none r _)))
     (λ _. stops (refused_none r _)))
     (λ _. stops (refused_none r _)))
     (λ _. stops (refused_none r _)))
@@ -121,7 +121,7 @@ roomy {x} r = ends_as (in_some_way x) (λ _ _ _. r) (λ _ _ _. inr r)
 constant_room : (k : Key) (t : constants.Tables) → Roomy (spacious t.header.counts ≡ true) t (constant_call k t)
 unfolding constant_call
 constant_room k t =
-    ends_test (constants.sizes (length t.names) (length t.constants) (length t.order) (length t.thresholds))
+    ends_test (constants.sized (length t.names) (length t.constants) (length t.order) (length t.thresholds))
     (λ _.
     ends_test (leb (length (bytes_of k)) 64)
     (λ _. ends_test (open? t.header) (λ _. ends_test (spacious t.header.counts) (λ h. roomy h) (λ _. stops (inl refl))) (λ _. stops (inl refl)))

@@ -26,9 +26,9 @@ use Rattle.keys.proofs.CodecLaws.{kind_back, payload_back, kind_kept, payload_ke
 use Rattle.nodes.specs.Node.{expression_at}
 use Rattle.rules.specs.declared.Rule.{Rule}
 use Rattle.rules.proofs.RuleLaws.{Short, Row, SmallContext}
-use Rattle.store.specs.Store.{Context}
+use Rattle.limits.specs.Context.{Context}
 use Rattle.store.specs.declared.Store.{Store}
-use Rattle.store.specs.Calls.{first_of, arity_of}
+use Rattle.store.specs.Calls.{first_argument, arity_of}
 use Rattle.store.proofs.Frame.{Spent, spent_none, Charging}
 use Rattle.constants.proofs.Kept.{Stands, Surrounds, Marked, Numbered, again, newly, Given}
 use Rattle.seeds.proofs.Beside.{Standing}
@@ -254,17 +254,17 @@ laid_new {n} {positions} rows arity room h = record { within = λ p l. inside p 
     rows' = sets rows (2 * n) (positions ∷ arity ∷ [])
 
     -- the rows before it stay
-    first : (p : ℕ) → p < n → first_of rows' p ≡ first_of rows p
+    first : (p : ℕ) → p < n → first_argument rows' p ≡ first_argument rows p
     first p l = kind_kept rows n p positions arity (λ e. omega arith)
 
     second : (p : ℕ) → p < n → arity_of rows' p ≡ arity_of rows p
     second p l = payload_kept rows n p positions arity (λ e. omega arith)
 
-    inside : (p : ℕ) → p < n + 1 → Dec (p < n) → first_of rows' p + arity_of rows' p ≤ positions + arity
+    inside : (p : ℕ) → p < n + 1 → Dec (p < n) → first_argument rows' p + arity_of rows' p ≤ positions + arity
     inside p l (yes b) = omega (arith, first p b, second p b, h.within p b)
     inside p l (no b) = let e : p ≡ n = omega arith in rw e (omega (arith, kind_back rows n room positions arity, payload_back rows n room positions arity))
 
-    between : (p q : ℕ) → p < q → q < n + 1 → Dec (q < n) → first_of rows' p + arity_of rows' p ≤ first_of rows' q
+    between : (p q : ℕ) → p < q → q < n + 1 → Dec (q < n) → first_argument rows' p + arity_of rows' p ≤ first_argument rows' q
     between p q l k (yes b) = let c : p < n = omega arith in omega (arith, first p c, second p c, first q b, h.apart p q l b)
     between p q l k (no b) =
         let e : q ≡ n = omega arith in

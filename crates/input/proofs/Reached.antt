@@ -22,11 +22,11 @@ use Rattle.thresholds.proofs.Sorted.{Rises, rises_none}
 use Rattle.keys.specs.Key.{Key, number, kind_at, payload_at, key_at}
 use Rattle.rules.specs.declared.Rule.{Rule}
 use Rattle.rules.proofs.RuleLaws.{Row, SmallContext}
-use Rattle.store.specs.Store.{Context}
+use Rattle.limits.specs.Context.{Context}
 use Rattle.store.specs.declared.Phase.TheVariants.{Open, Absent}
 use Rattle.store.specs.declared.Counts.{Counts}
 use Rattle.store.specs.Store.{empty, fresh_of}
-use Rattle.store.specs.Calls.{first_of, arity_of, open?, argument_call}
+use Rattle.store.specs.Calls.{first_argument, arity_of, open?, argument_call}
 use Rattle.lattice.specs.Constants.{Retained}
 use Rattle.constants.proofs.Keyed.{Keyed, keyed_none}
 use Rattle.constants.proofs.Keyed as keyed
@@ -63,8 +63,8 @@ pub record Counted (n : Counts) : Type 0 where
 
 -- the arguments of the first n predicates lie one after another, below `positions`
 pub record Laid (n positions : ℕ) (rows : List ℕ) : Type 0 where
-  pub within : (p : ℕ) → p < n → first_of rows p + arity_of rows p ≤ positions
-  pub apart : (p q : ℕ) → p < q → q < n → first_of rows p + arity_of rows p ≤ first_of rows q
+  pub within : (p : ℕ) → p < n → first_argument rows p + arity_of rows p ≤ positions
+  pub apart : (p q : ℕ) → p < q → q < n → first_argument rows p + arity_of rows p ≤ first_argument rows q
 
 -- each of the first n constants that is a number is one of 32 bits, and stands with its neighbours among the first `count` thresholds
 pub record Numbers (n : ℕ) (cells : List ℕ) (count : ℕ) (table : List ℤ) : Type 0 where
@@ -144,18 +144,18 @@ module _ {t : Tables} (r : Reached t) where
       omega (arith, r.counted.positions)
 
   -- a predicate's arguments exist
-  pub argument_exists : (p i : ℕ) → p < t.header.counts.predicates → i < arity_of t.predicates p → first_of t.predicates p + i < t.header.counts.positions
+  pub argument_exists : (p i : ℕ) → p < t.header.counts.predicates → i < arity_of t.predicates p → first_argument t.predicates p + i < t.header.counts.positions
   argument_exists p i h k = omega (arith, r.laid.within p h)
 
   -- and no two of them are the same
   pub one_argument : (p q i j : ℕ) → p < t.header.counts.predicates → q < t.header.counts.predicates → i < arity_of t.predicates p → j < arity_of t.predicates q →
-      first_of t.predicates p + i ≡ first_of t.predicates q + j → (p ≡ q) × (i ≡ j)
+      first_argument t.predicates p + i ≡ first_argument t.predicates q + j → (p ≡ q) × (i ≡ j)
   one_argument p q i j h k l m e = go (compared p q)
     where
       go : Compared p q → (p ≡ q) × (i ≡ j)
       go (less b) = absurd (omega (arith, r.laid.apart p q b k))
       go (more b) = absurd (omega (arith, r.laid.apart q p b h))
-      go (same b) = let f : first_of t.predicates p ≡ first_of t.predicates q = ap (first_of t.predicates) b in (b, omega arith)
+      go (same b) = let f : first_argument t.predicates p ≡ first_argument t.predicates q = ap (first_argument t.predicates) b in (b, omega arith)
 
   -- so `argument` answers one that exists
   pub argument_answers : (p i : ℕ) → Ends (λ a s. a < s.counts.positions) (λ _ _. Unit {0}) (argument_call p i t.predicates t.header)
@@ -169,7 +169,7 @@ module _ {t : Tables} (r : Reached t) where
       (λ h.
       ends_test (ltb i (arity_of t.predicates p))
       (λ k.
-      ends_pure (first_of t.predicates p + i) t.header (argument_exists p i (ltb-true p t.header.counts.predicates (and_right (ltb p 64) _ h)) (ltb-true i (arity_of t.predicates p) k)))
+      ends_pure (first_argument t.predicates p + i) t.header (argument_exists p i (ltb-true p t.header.counts.predicates (and_right (ltb p 64) _ h)) (ltb-true i (arity_of t.predicates p) k)))
       (λ _. stops tt))
       (λ _. stops tt))
       (λ _. stops tt))

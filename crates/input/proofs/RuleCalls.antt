@@ -21,13 +21,13 @@ use Rattle.limits.proofs.Ends.{Ends, completes, stops, ends_as, ends_both, ends_
 use Rattle.rules.specs.declared.Head.{Head}
 use Rattle.rules.specs.declared.Rule.{Rule}
 use Rattle.rules.specs.Rule.{heads_of}
-use Rattle.store.specs.Store.{Context}
+use Rattle.limits.specs.Context.{Context}
 use Rattle.std.proofs.Common.{None, Some}
 use Rattle.store.specs.declared.Store.{Store}
 use Rattle.store.specs.Store.{with_budget}
-use Rattle.store.specs.Calls.{open?, charged}
+use Rattle.store.specs.Calls.{open?, billing}
 use Rattle.provenance.specs.Provenance.{Records, records, record_in, provenance, recordable}
-use Rattle.producers.specs.Producer.{Scope, scope_of, checking, in_store, check_value, check_head, check_heads, check_body, check_rule, in_header, in_records, shapely, sizes, spacious, cost, add_rule, rule_call}
+use Rattle.producers.specs.Producer.{Scope, scope_of, checking, in_store, check_value, check_head, check_heads, check_body, check_rule, in_header, in_records, shapely, sized, spacious, cost, add_rule, rule_call}
 use Rattle.producers.specs.Producer as producers
 use Rattle.producers.proofs.Kept.{Accepted, rule_ends}
 use Rattle.producers.proofs.Kept as kept
@@ -76,7 +76,7 @@ idle_rule nodes q = record {
   at = λ n x u. (idle_then (idle_store (check_body x.header.counts.positions (scope_of nodes x.header q) q)) (idle_heads (scope_of nodes x.header q) (heads_of q))).at n x u;
 }
 
-idle_charge : {A : Type 0} (m : Metered Stop Budget A) (n : ℕ) (s : Store) → Unset n s → Ends (λ _ u. Unset n u) (λ _ u. Unset n u) (charged m s)
+idle_charge : {A : Type 0} (m : Metered Stop Budget A) (n : ℕ) (s : Store) → Unset n s → Ends (λ _ u. Unset n u) (λ _ u. Unset n u) (billing m s)
 idle_charge m n s u =
     ends_through (λ t. t) (λ _ t. t) (λ _ t. t) (λ e. told (Limit e)) {P = λ _ t. Unset n t} {Q = λ _ t. Unset n t} _ s
     (ends_through (λ t. t.budget) (λ t b. with_budget b t) (λ t b. with_budget b t) (λ e. e) m s (in_some_way _) (λ _ b _. u) (λ _ b _. u))
@@ -88,7 +88,7 @@ module _ (nodes : List ℕ) (q : Rule) (t : producers.Tables) where
       Ends (λ _ u. u.header.counts.provenance ≡ t.header.counts.provenance) (λ _ u. u.header.counts.provenance ≡ t.header.counts.provenance) (rule_call nodes q t)
   unfolding rule_call
   unrecorded e =
-      ends_test (sizes (length nodes) (length t.rules) (length t.records))
+      ends_test (sized (length nodes) (length t.rules) (length t.records))
       (λ _.
       ends_test (shapely q)
       (λ _.
@@ -96,8 +96,8 @@ module _ (nodes : List ℕ) (q : Rule) (t : producers.Tables) where
       (λ _.
       ends_test (spacious t.header)
       (λ _.
-      ends_then {P = λ _ u. Unset n u.header} {Q = λ _ u. u.header.counts.provenance ≡ n} (in_header (charged (cost q))) (in_records (check_rule nodes q) >> add_rule q) t
-      (ends_through (λ u. u.header) (λ u s. producers.tables s u.rules u.records) (λ u s. producers.tables s u.rules u.records) (λ x. x) (charged (cost q)) t (idle_charge (cost q) n t.header (e, refl))
+      ends_then {P = λ _ u. Unset n u.header} {Q = λ _ u. u.header.counts.provenance ≡ n} (in_header (billing (cost q))) (in_records (check_rule nodes q) >> add_rule q) t
+      (ends_through (λ u. u.header) (λ u s. producers.tables s u.rules u.records) (λ u s. producers.tables s u.rules u.records) (λ x. x) (billing (cost q)) t (idle_charge (cost q) n t.header (e, refl))
       (λ _ s v. v) (λ _ s v. v.1))
       (λ _ u v.
       ends_then {P = λ _ u. Unset n u.header} {Q = λ _ u. u.header.counts.provenance ≡ n} (in_records (check_rule nodes q)) (add_rule q) u
@@ -118,7 +118,7 @@ module _ (nodes : List ℕ) (q : Rule) (t : producers.Tables) where
   rule_room : Roomy (recordable t.header.context t.header.counts.provenance ≡ true) t (rule_call nodes q t)
   unfolding rule_call
   rule_room =
-      ends_test (sizes (length nodes) (length t.rules) (length t.records))
+      ends_test (sized (length nodes) (length t.rules) (length t.records))
       (λ _.
       ends_test (shapely q)
       (λ _.

@@ -4,7 +4,7 @@
 
 ghost use Rattle.std.specs.Prelude.{◌≡◌};
 ghost use Rattle.interval.specs.Interval.{ascending_of, hull_of, meet_of, checked_of, endpoints_of, contains_of};
-ghost use Rattle.interval.specs.Bound.{numeric_of, constant_of, either_of, both_of, hull_bound, meet_bound, same_bound, allows_of};
+ghost use Rattle.interval.specs.Bound.{numeric_of, constant_of, either_of, both_of, hull_bound, meet_bound, allows_of};
 
 // Whether every possible value is a number.
 #[derive(Clone, Copy, Debug, PartialEq, Eq)]

@@ -23,10 +23,10 @@ use Rattle.lists.specs.Lists.{union, push, retain_all, collect, permits, same_id
 use Rattle.lattice.specs.declared.Widening.TheVariants.{SymbolSize, ValueWidth}
 use Rattle.lattice.specs.Value.{Value, value, Reason}
 use Rattle.lattice.specs.Constants.{constant_at}
-use Rattle.lattice.specs.Lattice.{retained, constant, copied, same_lists, same, first, join_lists, join, permitted, keep_one, sift, reduce, source, meet_lists, without, meet}
+use Rattle.lattice.specs.Lattice.{retained, constant, copied, same_lists, same, first_reason, join_lists, join, permitted, keep_one, sift, reduce, source, meet_lists, bare_meet, meet}
 
--- the first reason that there is, by std's word
-pub first_is : (x y : Reason) {r : Reason} → r ≡ option_or x y → r ≡ first x y
+-- the first_reason reason that there is, by std's word
+pub first_is : (x y : Reason) {r : Reason} → r ≡ option_or x y → r ≡ first_reason x y
 first_is None y e = e
 first_is (Some w) y e = e
 
@@ -132,7 +132,7 @@ module _ (width : ℕ) (b : Bound) (r : Reason) (x y : List ℕ) (m : Meter) {m'
   pub lists_stopped : {s : Stop} → stopped s m' ≡ collect width [] (union x y) m → stopped s m' ≡ join_lists width b r (some x) (some y) m
   lists_stopped h = bind_stop _ _ _ h
 
-  pub lists_lost : {v : Value} {r' : Reason} → going none m' ≡ collect width [] (union x y) m → v ≡ value b none r' → r' ≡ first r (Some ValueWidth) → going v m' ≡ join_lists width b r (some x) (some y) m
+  pub lists_lost : {v : Value} {r' : Reason} → going none m' ≡ collect width [] (union x y) m → v ≡ value b none r' → r' ≡ first_reason r (Some ValueWidth) → going v m' ≡ join_lists width b r (some x) (some y) m
   lists_lost h p q = rw (p, q) (bind_on _ _ _ h (pure_is _ _))
 
   pub lists_kept : {v : Value} {l : List ℕ} → going (some l) m' ≡ collect width [] (union x y) m → v ≡ value b (some l) r → going v m' ≡ join_lists width b r (some x) (some y) m
@@ -143,7 +143,7 @@ module _ (width : ℕ) (u v : Value) (m : Meter) {m' : Meter} where
   unfolding join
   join_stopped h = then_stop _ _ _ h
 
-  module _ (h : going tt m' ≡ work 1 m) {b : Bound} (eb : b ≡ hull_bound u.bound v.bound) {r : Reason} (er : r ≡ first u.widening v.widening) where
+  module _ (h : going tt m' ≡ work 1 m) {b : Bound} (eb : b ≡ hull_bound u.bound v.bound) {r : Reason} (er : r ≡ first_reason u.widening v.widening) where
     pub join_left : {w : Value} → none ≡ u.values → w ≡ value b none r → going w m' ≡ join width u v m
     unfolding join
     join_left p k = then_on _ _ _ h (rw (← p, k, eb, er) (pure_is _ _))
@@ -214,6 +214,6 @@ module _ (cs : List ℕ) (u v : Value) (m : Meter) {m' : Meter} where
     unfolding meet
     meet_through p k = then_on _ _ _ h (k ∙ rw (eb, ← p))
 
-    pub meet_without : {w : Value} → none ≡ source u.values v.values → w ≡ without u v b → going w m' ≡ meet cs u v m
+    pub meet_without : {w : Value} → none ≡ source u.values v.values → w ≡ bare_meet u v b → going w m' ≡ meet cs u v m
     unfolding meet
     meet_without p k = then_on _ _ _ h (rw (← p, k, eb) (pure_is _ _))

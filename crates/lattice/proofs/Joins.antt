@@ -21,7 +21,7 @@ use Rattle.lattice.specs.Value.{Reason}
 use Rattle.std.specs.Prelude.{Some}
 use Rattle.lattice.specs.Value.{Value, value}
 use Rattle.lists.specs.Lists.{union}
-use Rattle.lattice.specs.Lattice.{first, joined_of, join_lists, join}
+use Rattle.lattice.specs.Lattice.{first_reason, joined_of, join_lists, join}
 use Rattle.lists.proofs.Unions.{union_increasing}
 use Rattle.lists.proofs.ListLaws.{Sorted, room, fitting, collect_is}
 
@@ -44,12 +44,12 @@ joined_list width (some x) (some y) = fitting width (union x y)
 abbrev pub joined_reason : ℕ → Reason → Option (List ℕ) → Option (List ℕ) → Reason
 joined_reason width r none y = r
 joined_reason width r (some x) none = r
-joined_reason width r (some x) (some y) = cond (leb (length (union x y)) (room width)) r (first r (Some ValueWidth))
+joined_reason width r (some x) (some y) = cond (leb (length (union x y)) (room width)) r (first_reason r (Some ValueWidth))
 
 abbrev pub joined_value : ℕ → Value → Value → Value
 joined_value width u v =
     value (hull_bound u.bound v.bound) (joined_list width u.values v.values)
-    (joined_reason width (first u.widening v.widening) u.values v.values)
+    (joined_reason width (first_reason u.widening v.widening) u.values v.values)
 
 lists_are : (width : ℕ) (b : Bound) (r : Reason) (x y : Option (List ℕ)) →
     Ensures (λ w. w ≡ value b (joined_list width x y) (joined_reason width r x y)) (join_lists width b r x y)
@@ -57,7 +57,7 @@ lists_are width b r none y = by_pure _ refl
 lists_are width b r (some x) none = by_pure _ refl
 lists_are width b r (some x) (some y) = bind (collect_is width [] (union x y) (omega arith)) (λ kept e. by_pure (joined_of b r kept) (rw e (told (leb (length (union x y)) (room width)))))
   where
-    told : (t : Bool) → joined_of b r (cond t (some (union x y)) none) ≡ value b (cond t (some (union x y)) none) (cond t r (first r (Some ValueWidth)))
+    told : (t : Bool) → joined_of b r (cond t (some (union x y)) none) ≡ value b (cond t (some (union x y)) none) (cond t r (first_reason r (Some ValueWidth)))
     told true = refl
     told false = refl
 
@@ -123,7 +123,7 @@ module _ (width : ℕ) (u v : Value) where
   pub join_kept : Ensures (λ w. (l : List ℕ) → (w.values ≡ some l) ↔ Kept width u.values v.values l) (join width u v)
   join_kept = weaken (λ w e l. rw e (kept_is width u.values v.values l)) join_list
 
-  pub join_reason : Ensures (λ w. w.widening ≡ joined_reason width (first u.widening v.widening) u.values v.values) (join width u v)
+  pub join_reason : Ensures (λ w. w.widening ≡ joined_reason width (first_reason u.widening v.widening) u.values v.values) (join width u v)
   join_reason = weaken (λ w e. rw e) (join_is width u v)
 
   pub join_sorted : Sorted u.values → Sorted v.values → Ensures (λ w. Sorted w.values) (join width u v)

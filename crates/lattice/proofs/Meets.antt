@@ -22,7 +22,7 @@ use Rattle.std.specs.Prelude.{None}
 use Rattle.lattice.specs.Value.{Value, value}
 use Rattle.lattice.specs.Constants.{constant_at}
 use Rattle.lists.specs.Lists.{push}
-use Rattle.lattice.specs.Lattice.{first, permitted, keep_one, sift, reduce, source, meet_lists, meet}
+use Rattle.lattice.specs.Lattice.{first_reason, permitted, keep_one, sift, reduce, source, meet_lists, meet}
 use Rattle.lists.proofs.ListLaws.{has_in, Sorted, permits_is}
 use Rattle.lattice.proofs.Joins.{Small}
 
@@ -102,7 +102,7 @@ reduce_is b cs kept = bind (folds cs (length kept) bottom_of kept) (λ h e. by_p
 -- with no list on either side the list is empty exactly if the bound is, and the reason is the older one; else what stays is the list,
 -- and the bound shrinks to its constants
 abbrev pub met_from : List ℕ → Value → Value → Bound → Option (List ℕ) → Value
-met_from cs u v b none = value b (cond (same_bound b bottom_of) (some []) none) (first u.widening v.widening)
+met_from cs u v b none = value b (cond (same_bound b bottom_of) (some []) none) (first_reason u.widening v.widening)
 met_from cs u v b (some l) =
     value (meet_bound b (held_by cs (passing (stays cs u.values v.values b) l))) (some (passing (stays cs u.values v.values b) l)) None
 
@@ -125,7 +125,7 @@ pub record Listless (u v w : Value) : Type 0 where
   pub bound : w.bound ≡ meet_bound u.bound v.bound
   pub empty : meet_bound u.bound v.bound ≡ bottom_of → w.values ≡ some []
   pub otherwise : (meet_bound u.bound v.bound ≡ bottom_of → ⊥) → w.values ≡ none
-  pub reason : w.widening ≡ first u.widening v.widening
+  pub reason : w.widening ≡ first_reason u.widening v.widening
 
 listless : (cs : List ℕ) (u v w : Value) → u.values ≡ none → v.values ≡ none → w ≡ met_value cs u v → Listless u v w
 listless cs u v w p q e =

@@ -1,11 +1,10 @@
--- The code's answers, as what the monad gives: counts are numbers in the code and a meter here.
+-- What the code hands back, as the definitions have it.
 use Rattle.std.specs.Prelude.{ℕ, List, Option, Some, None, Result}
 use Rattle.std.proofs.Math.Option.{some, none}
 use Rattle.std.proofs.Math.Option as math
 use Rattle.limits.specs.declared.Stop.{Stop}
-use Rattle.limits.specs.Metered.{Run}
+use Rattle.limits.specs.Metered.{Run, seen}
 use Rattle.limits.specs.declared.Meter.{Meter}
-use Rattle.lists.specs.Ids.{seen}
 use Rattle.lattice.specs.declared.Abstract.{Abstract}
 use Rattle.lattice.specs.Value.{Value, value_of}
 

@@ -57,14 +57,14 @@ same_lists (some l) (some r) = cond (eqb (length l) (length r)) (same_ids l r) (
 unfoldable pub same : Value → Value → Metered Stop Meter Bool
 same u v = work 1 >> cond (same_bound u.bound v.bound) (same_lists u.values v.values) (pure false)
 
--- the first reason that there is
-abbrev pub first : Reason → Reason → Reason
-first None r = r
-first (Some w) r = Some w
+-- the first_reason reason that there is
+abbrev pub first_reason : Reason → Reason → Reason
+first_reason None r = r
+first_reason (Some w) r = Some w
 
 -- the answer of a join: a list that does not fit the width is lost, with ValueWidth unless there is an older reason
 abbrev pub joined_of : Bound → Reason → Option (List ℕ) → Value
-joined_of b r none = value b none (first r (Some ValueWidth))
+joined_of b r none = value b none (first_reason r (Some ValueWidth))
 joined_of b r (some l) = value b (some l) r
 
 abbrev pub join_lists : ℕ → Bound → Reason → Option (List ℕ) → Option (List ℕ) → Metered Stop Meter Value
@@ -76,7 +76,7 @@ join_lists width b r (some x) (some y) = do
 
 -- 01: "Join takes the hull; lists [..] are kept exactly if both operands have one and the union fits the width."
 unfoldable pub join : ℕ → Value → Value → Metered Stop Meter Value
-join width u v = work 1 >> join_lists width (hull_bound u.bound v.bound) (first u.widening v.widening) u.values v.values
+join width u v = work 1 >> join_lists width (hull_bound u.bound v.bound) (first_reason u.widening v.widening) u.values v.values
 
 -- whether both values permit an id
 unfoldable pub permitted : Value → Value → ℕ → Metered Stop Meter Bool
@@ -110,11 +110,11 @@ source (some x) none = some x
 source (some x) (some y) = some (cond (leb (length x) (length y)) x y)
 
 -- a meet where neither value has a list: none, or the empty one where nothing is left
-abbrev pub without : Value → Value → Bound → Value
-without u v b = value b (cond (same_bound b bottom_of) (some []) none) (first u.widening v.widening)
+abbrev pub bare_meet : Value → Value → Bound → Value
+bare_meet u v b = value b (cond (same_bound b bottom_of) (some []) none) (first_reason u.widening v.widening)
 
 abbrev pub meet_lists : Value → Value → Bound → List ℕ → Option (List ℕ) → Metered Stop Meter Value
-meet_lists u v b constants none = pure (without u v b)
+meet_lists u v b constants none = pure (bare_meet u v b)
 meet_lists u v b constants (some l) = do
   kept ← sift u v b constants [] l
   reduced ← reduce b constants kept
@@ -126,3 +126,9 @@ meet constants u v = work 1 >> meet_lists u v (meet_bound u.bound v.bound) const
 
 unfoldable pub refine : List ℕ → Value → Interval → Metered Stop Meter Value
 refine constants v i = meet constants v (numeric i)
+
+-- a value that had a list is followed by one that has none: `widened` counts the arguments that this befalls
+abbrev pub loses : Option (List ℕ) → Option (List ℕ) → Bool
+loses none new = false
+loses (some l) none = true
+loses (some l) (some m) = false

@@ -6,12 +6,12 @@
 ghost use Rattle.std.specs.Prelude.{◌≡◌, ◌≤◌, [], length, IfSome};
 ghost use Rattle.std.proofs.Math.Option.{some, none};
 ghost use Rattle.sizes.specs.Sizes as size;
-ghost use Rattle.limits.specs.Metered.{answered};
+ghost use Rattle.limits.specs.Metered.{answered, seen};
 ghost use Rattle.lists.specs.Lists.{permits};
-ghost use Rattle.lists.specs.Ids.{ids_of, seen};
+ghost use Rattle.lists.specs.Ids.{ids_of};
 ghost use Rattle.lattice.specs.Value.{value, value_of, widening_number, reason_number};
 ghost use Rattle.lattice.specs.Constants.{constant_at};
-ghost use Rattle.lattice.specs.Lattice.{bottom, top, numeric, retained, constant, copied, same_lists, same, join_lists, join, permitted, keep_one, sift, reduce, source, meet_lists, without, meet, refine};
+ghost use Rattle.lattice.specs.Lattice.{bottom, top, numeric, retained, constant, copied, same_lists, same, join_lists, join, permitted, keep_one, sift, reduce, source, meet_lists, bare_meet, meet, refine, loses};
 ghost use Rattle.lattice.specs.Answers.{lent, answered_value};
 
 use interval::{Bound, Constant, Interval};
@@ -154,6 +154,13 @@ fn source<'a>(left: &'a Abstract, right: &'a Abstract) -> Option<&'a [u16]>
     }
 }
 
+// Whether a list is lost on the way from one value to the other.
+pub fn is_lost(old: &Abstract, new: &Abstract) -> bool
+    ensures { result ≡ loses (value_of old.now).values (value_of new.now).values }
+{
+    old.kept && !new.kept
+}
+
 // Two values that are met, within the bound that both have.
 #[derive(Clone, Copy)]
 struct Meeting<'a> {
@@ -227,8 +234,8 @@ impl Meeting<'_> {
     }
 
     // Where neither value has a list: none, or the empty one where nothing is left.
-    fn without(&self) -> Abstract
-        ensures { value_of result ≡ without (value_of self.now.left.now) (value_of self.now.right.now) self.now.bound }
+    fn bare(&self) -> Abstract
+        ensures { value_of result ≡ bare_meet (value_of self.now.left.now) (value_of self.now.right.now) self.now.bound }
     {
         let reason = self.left.reason.or(self.right.reason);
         if self.bound == Bound::BOTTOM {
@@ -344,7 +351,7 @@ impl Abstract {
         };
         match source(&self, &other) {
             Some(ids) => meeting.through(ids, meter),
-            None => Ok(meeting.without()),
+            None => Ok(meeting.bare()),
         }
     }
 

@@ -8,3 +8,4 @@ pub mod Alike
 pub mod Charging
 pub mod Units
 pub mod Answering
+pub mod Seen

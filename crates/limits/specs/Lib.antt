@@ -1,6 +1,7 @@
 pub mod Charge
 pub mod Records
 pub mod Refusal
-pub mod Metered
+pub mod Meter
+pub mod Contexted
 pub mod Budget
 pub mod Meter

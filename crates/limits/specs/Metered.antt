@@ -11,6 +11,11 @@ abbrev pub answered : {E S A : Type 0} → Result A E → S → Run E S A
 answered (Ok a) s = going a s
 answered (Err e) s = stopped e s
 
+-- the same where the code's value stands for `of` it
+abbrev pub seen : {E S A B : Type 0} → (A → B) → Result A E → S → Run E S B
+seen of (Ok a) s = going (of a) s
+seen of (Err e) s = stopped e s
+
 abbrev pub Metered : Type 0 → Type 0 → Type 0 → Type 0
 Metered E S A = S → Run E S A
 

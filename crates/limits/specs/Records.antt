@@ -51,5 +51,5 @@ with_widened n s = statistics (λ q. count_of q s) n
 abbrev pub with_statistics : Statistics → Budget → Budget
 with_statistics s b = record { limits = b.limits; statistics = s }
 
-abbrev pub fresh : Limits → Budget
-fresh l = record { limits = l; statistics = statistics (λ _. 0) 0 }
+abbrev pub fresh_budget : Limits → Budget
+fresh_budget l = record { limits = l; statistics = statistics (λ _. 0) 0 }

@@ -4,7 +4,7 @@
 
 ghost use Rattle.std.specs.Prelude.{◌≡◌, ◌-◌};
 ghost use Rattle.limits.specs.Charge.{charge_of, observed, counting, units_of};
-ghost use Rattle.limits.specs.Records.{count_of, limit_of, with_count, with_statistics, fresh};
+ghost use Rattle.limits.specs.Records.{count_of, limit_of, with_count, fresh_budget};
 ghost use Rattle.limits.specs.declared.Refusal.TheVariants.{Limit};
 ghost use Rattle.limits.specs.Refusal.{resource_number, told};
 ghost use Rattle.limits.specs.Budget.{charge, released, widened_once};
@@ -288,7 +288,7 @@ impl Statistics {
 impl Budget {
     // Nothing charged yet.
     pub fn new(limits: Limits) -> Budget
-        ensures { result ≡ fresh limits }
+        ensures { result ≡ fresh_budget limits }
     {
         Budget {
             limits,

@@ -20,11 +20,6 @@ abbrev pub past : ℕ → List ℕ → List ℕ
 past i [] = []
 past i (x ∷ xs) = cond (eqb x i) xs (x ∷ xs)
 
--- the code's answer and the state that it leaves, as what the computation gives, where the code's value stands for `of` it
-abbrev pub seen : {E S A B : Type 0} → (A → B) → Result A E → S → Run E S B
-seen of (Ok a) s = going (of a) s
-seen of (Err e) s = stopped e s
-
 abbrev pub merged : Option Ids → math.Option (List ℕ)
 merged None = none
 merged (Some l) = some (ids_of l)

@@ -4,9 +4,9 @@
 #![tactic(auto)]
 
 ghost use Rattle.std.specs.Prelude.{◌≡◌, [], length};
-ghost use Rattle.limits.specs.Metered.{answered};
+ghost use Rattle.limits.specs.Metered.{answered, seen};
 ghost use Rattle.lists.specs.Lists.{union, push, retain_all, take_one, collect, permits_in, same_ids};
-ghost use Rattle.lists.specs.Ids.{next_of, past, seen, merged};
+ghost use Rattle.lists.specs.Ids.{next_of, past, merged};
 
 use limits::{Meter, Stop};
 

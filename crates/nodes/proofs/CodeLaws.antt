@@ -16,18 +16,18 @@ use Rattle.nodes.specs.declared.Expression.{Expression}
 use Rattle.nodes.specs.declared.Expression.TheVariants.{Absolute}
 use Rattle.nodes.specs.declared.Node.{Node}
 use Rattle.sizes.specs.Sizes.{node_row}
-use Rattle.nodes.specs.Node.{node, unread, unary_of, binary_of, expression_of, node_at, nesting_at, expression_at, put_node}
+use Rattle.nodes.specs.Node.{node, unread, read_unary, read_binary, expression_of, node_at, nesting_at, expression_at, put_node}
 
 -- ---- from cells to an expression
 
 module _ (n : Node) (id : ℕ) where
-  pub as_unary : {x : Expression} → n.left < id → n.kind ≡ 2 → x ≡ unary_of n.operator n.left → x ≡ expression_of n id
+  pub as_unary : {x : Expression} → n.left < id → n.kind ≡ 2 → x ≡ read_unary n.operator n.left → x ≡ expression_of n id
   as_unary h e d = rw (e, lt-ltb n.left id h) d
 
   pub as_absolute : n.left < id → n.kind ≡ 3 → Absolute n.left ≡ expression_of n id
   as_absolute h e = rw (e, lt-ltb n.left id h)
 
-  pub as_binary : {x : Expression} → n.left < id → n.right < id → n.kind ≡ 4 → x ≡ binary_of n.operator n.left n.right → x ≡ expression_of n id
+  pub as_binary : {x : Expression} → n.left < id → n.right < id → n.kind ≡ 4 → x ≡ read_binary n.operator n.left n.right → x ≡ expression_of n id
   as_binary h g e d = rw (e, lt-ltb n.left id h, lt-ltb n.right id g) d
 
   -- a child that is not below it

@@ -23,7 +23,7 @@ use Rattle.nodes.specs.declared.Expression.{Expression}
 use Rattle.nodes.specs.declared.Expression.TheVariants.{Constant, Slot, Unary, Absolute, Binary, Unknown}
 use Rattle.nodes.specs.declared.Node.{Node}
 use Rattle.sizes.specs.Sizes.{node_row}
-use Rattle.nodes.specs.Node.{binary_number, mark_of, node, node_of, same_node, widening_of, unread, unary_of, binary_of, expression_of, node_at, nesting_at, put_node}
+use Rattle.nodes.specs.Node.{binary_number, flag_of, node, node_of, same_node, widening_of, unread, read_unary, read_binary, expression_of, node_at, nesting_at, put_node}
 
 -- the cells of a row
 abbrev row_of : Node → ℕ → List ℕ
@@ -88,7 +88,7 @@ Undivided (Absolute e) = Unit {0}
 Undivided (Binary op l r) = (op ≡ Div → ⊥) × (op ≡ Mod → ⊥)
 Undivided (Unknown integer reason) = Unit {0}
 
-mark_back : (t : Bool) → not (eqb (mark_of t) 0) ≡ t
+mark_back : (t : Bool) → not (eqb (flag_of t) 0) ≡ t
 mark_back true = refl
 mark_back false = refl
 
@@ -100,7 +100,7 @@ widening_back SymbolSize = refl
 widening_back ValueWidth = refl
 widening_back Dependency = refl
 
-binary_back : (op : BinaryOp) (l r : ℕ) → (op ≡ Div → ⊥) → (op ≡ Mod → ⊥) → binary_of (binary_number op) l r ≡ Binary op l r
+binary_back : (op : BinaryOp) (l r : ℕ) → (op ≡ Div → ⊥) → (op ≡ Mod → ⊥) → read_binary (binary_number op) l r ≡ Binary op l r
 binary_back Add l r p q = refl
 binary_back Sub l r p q = refl
 binary_back Mul l r p q = refl
@@ -123,10 +123,10 @@ expression_back (Unknown t w) id h p = rw (mark_back t, widening_back w)
 -- ---- whatever the cells hold
 
 module _ (n : Node) (id : ℕ) where
-  unary_below : n.left < id → Below id (unary_of n.operator n.left)
+  unary_below : n.left < id → Below id (read_unary n.operator n.left)
   unary_below h = all_get_d (Below id) (Unary Negate n.left ∷ Unary BitwiseNot n.left ∷ []) n.operator unread (h, (h, tt)) tt
 
-  binary_below : n.left < id → n.right < id → Below id (binary_of n.operator n.left n.right)
+  binary_below : n.left < id → n.right < id → Below id (read_binary n.operator n.left n.right)
   binary_below h g =
       let l = n.left in
       let r = n.right in
@@ -140,20 +140,20 @@ module _ (n : Node) (id : ℕ) where
       all_get_d (Below id)
       (Constant n.left ∷
       Slot n.left ∷
-      cond (ltb n.left id) (unary_of n.operator n.left) unread ∷
+      cond (ltb n.left id) (read_unary n.operator n.left) unread ∷
       cond (ltb n.left id) (Absolute n.left) unread ∷
-      cond (ltb n.left id && ltb n.right id) (binary_of n.operator n.left n.right) unread ∷
+      cond (ltb n.left id && ltb n.right id) (read_binary n.operator n.left n.right) unread ∷
       Unknown (not (eqb n.operator 0)) (widening_of n.left) ∷
       []) n.kind unread
       (tt, (tt, (unary, (absolute, (binary, (tt, tt)))))) tt
     where
-      unary : Below id (cond (ltb n.left id) (unary_of n.operator n.left) unread)
+      unary : Below id (cond (ltb n.left id) (read_unary n.operator n.left) unread)
       unary = by_cond (Below id) (ltb n.left id) (λ e. unary_below (ltb-true n.left id e)) (λ e. tt)
 
       absolute : Below id (cond (ltb n.left id) (Absolute n.left) unread)
       absolute = by_cond (Below id) (ltb n.left id) (λ e. ltb-true n.left id e) (λ e. tt)
 
-      binary : Below id (cond (ltb n.left id && ltb n.right id) (binary_of n.operator n.left n.right) unread)
+      binary : Below id (cond (ltb n.left id && ltb n.right id) (read_binary n.operator n.left n.right) unread)
       binary =
           by_cond (Below id) (ltb n.left id && ltb n.right id)
           (λ e. binary_below (ltb-true n.left id (and_left (ltb n.left id) (ltb n.right id) e)) (ltb-true n.right id (and_right (ltb n.left id) (ltb n.right id) e)))

@@ -31,9 +31,9 @@ binary_number BitAnd = 6
 binary_number BitOr = 7
 binary_number BitXor = 8
 
-abbrev pub mark_of : Bool → ℕ
-mark_of false = 0
-mark_of true = 1
+abbrev pub flag_of : Bool → ℕ
+flag_of false = 0
+flag_of true = 1
 
 abbrev pub node : ℕ → ℕ → ℕ → ℕ → Node
 node k o l r = record { kind = k; operator = o; left = l; right = r }
@@ -44,7 +44,7 @@ node_of (Slot s) = node 1 0 s 0
 node_of (Unary op e) = node 2 (unary_number op) e 0
 node_of (Absolute e) = node 3 0 e 0
 node_of (Binary op l r) = node 4 (binary_number op) l r
-node_of (Unknown integer reason) = node 5 (mark_of integer) (widening_number reason) 0
+node_of (Unknown integer reason) = node 5 (flag_of integer) (widening_number reason) 0
 
 -- `Expression: PartialEq`
 abbrev pub same_node : Node → Node → Bool
@@ -60,12 +60,12 @@ widening_of n = get_or (HeadForm ∷ HeadForm ∷ HeadTerm ∷ UnboundVariable �
 abbrev pub unread : Expression
 unread = Unknown false HeadForm
 
-abbrev pub unary_of : ℕ → ℕ → Expression
-unary_of op e = get_or (Unary Negate e ∷ Unary BitwiseNot e ∷ []) op unread
+abbrev pub read_unary : ℕ → ℕ → Expression
+read_unary op e = get_or (Unary Negate e ∷ Unary BitwiseNot e ∷ []) op unread
 
 -- without division and remainder
-abbrev pub binary_of : ℕ → ℕ → ℕ → Expression
-binary_of op l r =
+abbrev pub read_binary : ℕ → ℕ → ℕ → Expression
+read_binary op l r =
     get_or
     (Binary Add l r ∷
     Binary Sub l r ∷
@@ -84,9 +84,9 @@ expression_of n id =
     get_or
     (Constant n.left ∷
     Slot n.left ∷
-    cond (ltb n.left id) (unary_of n.operator n.left) unread ∷
+    cond (ltb n.left id) (read_unary n.operator n.left) unread ∷
     cond (ltb n.left id) (Absolute n.left) unread ∷
-    cond (ltb n.left id && ltb n.right id) (binary_of n.operator n.left n.right) unread ∷
+    cond (ltb n.left id && ltb n.right id) (read_binary n.operator n.left n.right) unread ∷
     Unknown (not (eqb n.operator 0)) (widening_of n.left) ∷
     []) n.kind unread
 

@@ -4,7 +4,7 @@
 
 ghost use Rattle.std.specs.Prelude.{◌≡◌, ◌*◌, min, get_or, set};
 ghost use Rattle.sizes.specs.Sizes as size;
-ghost use Rattle.nodes.specs.Node.{unary_number, binary_number, node_of, widening_of, unread, unary_of, binary_of, expression_of, node_at, nesting_at, expression_at, put_node};
+ghost use Rattle.nodes.specs.Node.{unary_number, binary_number, node_of, widening_of, read_unary, read_binary, expression_of, node_at, nesting_at, expression_at, put_node};
 
 use lattice::Widening;
 
@@ -178,8 +178,8 @@ fn widening_of(number: u64) -> Widening
     }
 }
 
-fn unary_of(operator: u64, value: u64) -> Expression
-    ensures { result ≡ unary_of operator value }
+fn read_unary(operator: u64, value: u64) -> Expression
+    ensures { result ≡ read_unary operator value }
 {
     match operator {
         0 => Expression::Unary(UnaryOp::Negate, value),
@@ -189,8 +189,8 @@ fn unary_of(operator: u64, value: u64) -> Expression
 }
 
 // Division and remainder are no part of the port yet.
-fn binary_of(operator: u64, left: u64, right: u64) -> Expression
-    ensures { result ≡ binary_of operator left right }
+fn read_binary(operator: u64, left: u64, right: u64) -> Expression
+    ensures { result ≡ read_binary operator left right }
 {
     let op = match operator {
         0 => BinaryOp::Add,
@@ -212,10 +212,10 @@ fn expression_of(node: Node, id: u64) -> Expression
     match node.kind {
         0 => Expression::Constant(node.left),
         1 => Expression::Slot(node.left),
-        2 if node.left < id => unary_of(node.operator, node.left),
+        2 if node.left < id => read_unary(node.operator, node.left),
         3 if node.left < id => Expression::Absolute(node.left),
         4 if node.left < id && node.right < id => {
-            binary_of(node.operator, node.left, node.right)
+            read_binary(node.operator, node.left, node.right)
         }
         5 => Expression::Unknown(node.operator != 0, widening_of(node.left)),
         _ => UNREAD,

@@ -18,14 +18,14 @@ use Rattle.interval.specs.declared.Interval.{Interval}
 use Rattle.cells.specs.Cells.{of_cell}
 use Rattle.keys.specs.Key.{name_at, kind_at, payload_at}
 use Rattle.rows.specs.Row.{integrality_of, interval_of}
-use Rattle.results.specs.Result.{place}
+use Rattle.results.specs.Result.{bound_place}
 use Rattle.store.specs.declared.Phase.{Phase}
 use Rattle.store.specs.declared.Phase.TheVariants.{Absent, Open, Completed, Stopped}
 use Rattle.store.specs.declared.Store.{Store}
 use Rattle.sizes.specs.Sizes.{rule_row}
 use Rattle.rules.specs.Read.{slots_at}
 use Rattle.numeric.specs.Reading.{Reading, given, refused, in_phase, reading, there, contexts_of, nth, bound_at, name_of}
-use Rattle.numeric.specs.Answers.{permits, reads}
+use Rattle.numeric.specs.Answers.{readable, reads}
 use Rattle.std.proofs.Common.{Result, Ok, Err}
 use Rattle.std.specs.Prelude.{IsErrAnd}
 use Rattle.std.proofs.lemmas.Result.{err_from_is_err_and}
@@ -37,14 +37,14 @@ abbrev following : {A : Type 0} → Result (Unit {0}) Refusal → Reading A → 
 following (Ok u) x = x
 following (Err e) x = refused (told e)
 
-follows : {A : Type 0} (sized : Bool) (p : Phase) (x : Reading A) → following (permits sized p) x ≡ cond sized (in_phase p x) (refused (told Shape))
+follows : {A : Type 0} (sized : Bool) (p : Phase) (x : Reading A) → following (readable sized p) x ≡ cond sized (in_phase p x) (refused (told Shape))
 follows false p x = refl
 follows true Absent x = refl
 follows true Open x = refl
 follows true Completed x = refl
 follows true (Stopped e c) x = refl
 
-module _ {A : Type 0} (s : Store) (sized : Bool) (x : Reading A) {r : Result (Unit {0}) Refusal} (h : r ≡ permits sized s.phase) where
+module _ {A : Type 0} (s : Store) (sized : Bool) (x : Reading A) {r : Result (Unit {0}) Refusal} (h : r ≡ readable sized s.phase) where
   pub turned_down : {e : Refusal} → r ≡ Err e → refused (told e) ≡ reading sized s x
   turned_down k = ap (λ (r : Result (Unit {0}) Refusal). following r x) (sym k ∙ h) ∙ follows sized s.phase x
 
@@ -143,7 +143,7 @@ module _ (records : List ℕ) (a : ℕ) where
 
 -- ---- slots: those of rules that the table has rows for
 
-sized_true : (sized : Bool) (p : Phase) {u : Unit {0}} → permits sized p ≡ Ok u → sized ≡ true
+sized_true : (sized : Bool) (p : Phase) {u : Unit {0}} → readable sized p ≡ Ok u → sized ≡ true
 sized_true true p h = refl
 sized_true false p h = let z : ◌≡◌ {A = ℕ} 0 1 = ap mark h in absurd (omega arith)
   where
@@ -151,7 +151,7 @@ sized_true false p h = let z : ◌≡◌ {A = ℕ} 0 1 = ap mark h in absurd (om
     mark (Ok u) = 1
     mark (Err e) = 0
 
-pub in_table : (rules : List ℕ) (r k : ℕ) (slots : ℕ) (p : Phase) {u : Unit {0}} → permits (eqb (length rules) size.rule_cells && eqb slots size.bounds_cells) p ≡ Ok u → k < slots_at rules r → (r < 256) × (k < 16)
+pub in_table : (rules : List ℕ) (r k : ℕ) (slots : ℕ) (p : Phase) {u : Unit {0}} → readable (eqb (length rules) size.rule_cells && eqb slots size.bounds_cells) p ≡ Ok u → k < slots_at rules r → (r < 256) × (k < 16)
 unfolding slots_at
 in_table rules r k slots p z h = (go (ltb r 256) refl, omega arith)
   where
@@ -165,7 +165,7 @@ in_table rules r k slots p z h = (go (ltb r 256) refl, omega arith)
         let n : get_or rules (rule_row * r) 0 ≡ 0 = get_or-eq_default rules 0 (omega (arith, whole)) in
         absurd (omega (arith, n))
 
--- ---- names, a bound at its place
+-- ---- names, a bound at its bound_place
 
 pub no_name : (names constants : List ℕ) (k : ℕ) {n : ℕ} → n ≡ kind_at constants k → (n ≡ 2 → ⊥) → [] ≡ name_of names constants k
 no_name names constants k h o = rw (ne_eqb (kind_at constants k) 2 (λ z. o (h ∙ z))) refl
@@ -178,6 +178,6 @@ pub bound_read_lem : (cells : List ℕ) (at : ℕ) {i : Integrality} {v : Interv
     record { integrality = i; interval = v } ≡ bound_at cells at
 bound_read_lem cells at p i q r s v = rw (i, v, p, q, r, s) refl
 
-pub place_fits : (r k : ℕ) (after : Bool) {n : ℕ} → n ≡ place r k after → r < 256 → k < 16 → n < 32768
+pub place_fits : (r k : ℕ) (after : Bool) {n : ℕ} → n ≡ bound_place r k after → r < 256 → k < 16 → n < 32768
 place_fits r k true h p q = omega arith
 place_fits r k false h p q = omega arith

@@ -12,12 +12,12 @@ use Rattle.numeric.specs.declared.Ended.TheVariants as ended
 use Rattle.numeric.specs.Reading.{Reading, given, refused, Kind, number, name, large, Status, completed, halted}
 
 -- whether tables of these sizes can be read in a phase, and if not, why
-abbrev pub permits : Bool → Phase → Result (Unit {0}) Refusal
-permits false p = Err Shape
-permits true Absent = Err Closed
-permits true Open = Err Closed
-permits true Completed = Ok tt
-permits true (Stopped e c) = Err Missing
+abbrev pub readable : Bool → Phase → Result (Unit {0}) Refusal
+readable false p = Err Shape
+readable true Absent = Err Closed
+readable true Open = Err Closed
+readable true Completed = Ok tt
+readable true (Stopped e c) = Err Missing
 
 -- an answer, seen by what of it is read
 abbrev pub reads : {A B : Type 0} → (A → B) → Result A Refusal → Reading B

@@ -9,12 +9,12 @@ use Rattle.cells.specs.Cells.{of_cell}
 use Rattle.lattice.specs.Value.{Value}
 use Rattle.rows.specs.Row.{integrality_of, interval_of, value_at}
 use Rattle.keys.specs.Key.{name_at, kind_at, payload_at}
-use Rattle.store.specs.Store.{Context}
+use Rattle.limits.specs.Context.{Context}
 use Rattle.store.specs.declared.Phase.{Phase}
 use Rattle.store.specs.declared.Phase.TheVariants.{Absent, Open, Completed, Stopped}
 use Rattle.store.specs.declared.Store.{Store}
 use Rattle.rules.specs.Read.{slots_at}
-use Rattle.results.specs.Result.{place}
+use Rattle.results.specs.Result.{bound_place}
 
 pub data Reading (A : Type 0) : Type 0 where
   given : A → Reading A
@@ -68,7 +68,7 @@ bound_at cells at = record { integrality = integrality_of (get_or cells at 0); i
 unfoldable pub slot_reading : Store → List ℕ → List ℕ → ℕ → ℕ → Bool → Reading Bound
 slot_reading s rules slots r k after =
     reading (eqb (length rules) size.rule_cells && eqb (length slots) size.bounds_cells) s
-    (cond (ltb r s.counts.rules) (cond (ltb k (slots_at rules r)) (given (bound_at slots (place r k after))) (refused (told MissingSlot))) (refused (told Missing)))
+    (cond (ltb r s.counts.rules) (cond (ltb k (slots_at rules r)) (given (bound_at slots (bound_place r k after))) (refused (told MissingSlot))) (refused (told Missing)))
 
 -- ---- constants
 

@@ -68,11 +68,11 @@ on_store s (stopped e t) = stepped (refused e) (state t s.arguments s.slots)
 abbrev pub for_run : State → engine.Tables
 for_run s = engine.tables s.tables.header s.tables.thresholds s.arguments s.slots
 
-abbrev pub with_thresholds : engine.Tables → Tables → Tables
-with_thresholds u t = tables u.header t.predicates t.names t.constants t.order u.thresholds t.nodes t.seeds t.records t.rules
+abbrev pub after_run : engine.Tables → Tables → Tables
+after_run u t = tables u.header t.predicates t.names t.constants t.order u.thresholds t.nodes t.seeds t.records t.rules
 
 abbrev pub from_run : engine.Tables → State → State
-from_run u s = state (with_thresholds u s.tables) u.arguments u.slots
+from_run u s = state (after_run u s.tables) u.arguments u.slots
 
 abbrev pub on_run : State → Run Told engine.Tables (Unit {0}) → Stepped
 on_run s (going r u) = stepped ran (from_run u s)

@@ -4,10 +4,10 @@
 
 ghost use Rattle.std.specs.Prelude.{◌≡◌, ◌&&◌, ◌*◌, ◌<◌, ◌≤◌, eqb, length, get_or};
 ghost use Rattle.sizes.specs.Sizes as size;
-ghost use Rattle.results.specs.Result.{place};
-ghost use Rattle.numeric.specs.Reading.{given, contexts_of, nth, bound_at, kind_of, name_of, argument_reading, context_count_reading, context_reading, slot_reading, key_reading, name_reading, status_reading};
+ghost use Rattle.results.specs.Result.{bound_place};
+ghost use Rattle.numeric.specs.Reading.{contexts_of, nth, bound_at, kind_of, name_of, argument_reading, context_count_reading, context_reading, slot_reading, key_reading, name_reading, status_reading};
 ghost use Rattle.lattice.specs.Value.{value_of};
-ghost use Rattle.numeric.specs.Answers.{permits, reads, kind, status};
+ghost use Rattle.numeric.specs.Answers.{readable, reads, kind, status};
 
 use interval::{Bound, Constant};
 use lattice::Abstract;
@@ -22,8 +22,8 @@ pub enum Ended {
 }
 
 // Whether a phase permits readings over tables of these sizes.
-fn permit(sized: bool, phase: Phase) -> Result<(), Refusal>
-    ensures { result ≡ permits sized phase }
+fn readable(sized: bool, phase: Phase) -> Result<(), Refusal>
+    ensures { result ≡ readable sized phase }
 {
     if !sized {
         return Err(Refusal::Shape);
@@ -40,7 +40,7 @@ fn permit(sized: bool, phase: Phase) -> Result<(), Refusal>
 pub fn argument(store: &Store, arguments: &[u32], argument: u64) -> Result<Abstract, Refusal>
     ensures { reads value_of result ≡ argument_reading store.now arguments.now argument }
 {
-    permit(arguments.len() == sizes::ARGUMENT_CELLS, store.phase)?;
+    readable(arguments.len() == sizes::ARGUMENT_CELLS, store.phase)?;
     if store.counts.positions as u64 <= argument {
         return Err(Refusal::Missing);
     }
@@ -91,7 +91,7 @@ fn find_context(records: &[u32], count: usize, argument: u64, k: u64) -> Result<
 pub fn context_count(store: &Store, records: &[u32], argument: u64) -> Result<u64, Refusal>
     ensures { reads (λ n. n) result ≡ context_count_reading store.now records.now argument }
 {
-    permit(records.len() == sizes::RECORD_CELLS, store.phase)?;
+    readable(records.len() == sizes::RECORD_CELLS, store.phase)?;
     if store.counts.positions as u64 <= argument {
         return Err(Refusal::Missing);
     }
@@ -107,7 +107,7 @@ pub fn context_count(store: &Store, records: &[u32], argument: u64) -> Result<u6
 pub fn context(store: &Store, records: &[u32], argument: u64, k: u64) -> Result<u64, Refusal>
     ensures { reads (λ n. n) result ≡ context_reading store.now records.now argument k }
 {
-    permit(records.len() == sizes::RECORD_CELLS, store.phase)?;
+    readable(records.len() == sizes::RECORD_CELLS, store.phase)?;
     if store.counts.positions as u64 <= argument {
         return Err(Refusal::Missing);
     }
@@ -135,9 +135,9 @@ fn bound_at(cells: &[u32], at: usize) -> Bound
 }
 
 // Where the bound of a slot stands, before guards or after them.
-fn place(rule: usize, slot: usize, after: bool) -> usize
+fn bound_place(rule: usize, slot: usize, after: bool) -> usize
     requires { (rule < size.rules) × (slot < size.slots) }
-    ensures { result ≡ place rule slot after }
+    ensures { result ≡ bound_place rule slot after }
 {
     let at = sizes::BOUNDS_ROW * rule + sizes::SLOT_ROW * slot;
     if after { at + sizes::BOUND_ROW } else { at }
@@ -161,14 +161,14 @@ pub fn slot(
 ) -> Result<Bound, Refusal>
     ensures { reads (λ b. b) result ≡ slot_reading store.now rules.now slots.now rule slot after }
 {
-    permit(is_slots_sized(rules.len(), slots.len()), store.phase)?;
+    readable(is_slots_sized(rules.len(), slots.len()), store.phase)?;
     if store.counts.rules as u64 <= rule {
         return Err(Refusal::Missing);
     }
     if rules::slots_at(rules, rule as usize) <= slot {
         return Err(Refusal::MissingSlot);
     }
-    Ok(bound_at(slots, place(rule as usize, slot as usize, after)))
+    Ok(bound_at(slots, bound_place(rule as usize, slot as usize, after)))
 }
 
 // The key of a constant, but for the bytes of a name.
@@ -176,7 +176,7 @@ pub fn slot(
 pub fn key(store: &Store, constants: &[u32], constant: u64) -> Result<Constant, Refusal>
     ensures { reads kind result ≡ key_reading store.now constants.now constant }
 {
-    permit(constants.len() == sizes::CONSTANT_CELLS, store.phase)?;
+    readable(constants.len() == sizes::CONSTANT_CELLS, store.phase)?;
     if store.counts.constants as u64 <= constant {
         return Err(Refusal::Missing);
     }
@@ -219,7 +219,7 @@ pub fn name<'a>(
 ) -> Result<&'a [u8], Refusal>
     ensures { reads (λ p. p.now) result ≡ name_reading store.now names.now constants.now constant }
 {
-    permit(is_names_sized(names.len(), constants.len()), store.phase)?;
+    readable(is_names_sized(names.len(), constants.len()), store.phase)?;
     if store.counts.constants as u64 <= constant {
         return Err(Refusal::Missing);
     }

@@ -11,9 +11,9 @@ use Rattle.nodes.specs.declared.UnaryOp.{UnaryOp}
 use Rattle.nodes.specs.declared.UnaryOp.TheVariants.{Negate, BitwiseNot}
 use Rattle.nodes.specs.declared.BinaryOp.{BinaryOp}
 use Rattle.nodes.specs.declared.BinaryOp.TheVariants.{Add, Sub, Mul, Div, Mod, Pow, BitAnd, BitOr, BitXor}
-use Rattle.operators.specs.Arithmetic.{range_of, interval_of, negated, unary_of, absolute_of, operated, binary_of, span}
+use Rattle.operators.specs.Arithmetic.{range_of, interval_from, negated, unary_of, absolute_of, operated, binary_of, span}
 
-ranged_proper : (r : Option Range) → IsProper r → Proper (interval_of r)
+ranged_proper : (r : Option Range) → IsProper r → Proper (interval_from r)
 ranged_proper (Some a) p = (p.low, (p.high, p.ascends))
 ranged_proper None p = tt
 

@@ -25,9 +25,9 @@ range_of (Bounded low high) = checked_of low high
 range_of Unbounded = None
 
 -- `interval`, and Unbounded where a range declines
-abbrev pub interval_of : Option Range → Interval
-interval_of (Some a) = Bounded a.low a.high
-interval_of None = Unbounded
+abbrev pub interval_from : Option Range → Interval
+interval_from (Some a) = Bounded a.low a.high
+interval_from None = Unbounded
 
 -- ---- one operand
 
@@ -38,7 +38,7 @@ negated None = None
 -- nothing comes of nothing; bitwise not is Unbounded
 abbrev pub unary_of : UnaryOp → Interval → Interval
 unary_of op Bottom = Bottom
-unary_of Negate (Bounded low high) = interval_of (negated (range_of (Bounded low high)))
+unary_of Negate (Bounded low high) = interval_from (negated (range_of (Bounded low high)))
 unary_of Negate Unbounded = Unbounded
 unary_of BitwiseNot (Bounded low high) = Unbounded
 unary_of BitwiseNot Unbounded = Unbounded
@@ -69,7 +69,7 @@ operated op (Some a) None = None
 operated op None b = None
 
 abbrev pub binary_of : BinaryOp → Interval → Interval → Interval
-binary_of op x y = interval_of (operated op (range_of x) (range_of y))
+binary_of op x y = interval_from (operated op (range_of x) (range_of y))
 
 abbrev pub difference? : BinaryOp → Bool
 difference? Add = false

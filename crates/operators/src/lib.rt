@@ -3,7 +3,7 @@
 #![tactic(auto)]
 
 ghost use Rattle.std.specs.Prelude.{◌≡◌};
-ghost use Rattle.operators.specs.Arithmetic.{empty?, range_of, interval_of, unary_of, absolute_of, arithmetic, binary_of, difference?, span};
+ghost use Rattle.operators.specs.Arithmetic.{empty?, range_of, interval_from, unary_of, absolute_of, arithmetic, binary_of, difference?, span};
 ghost use Rattle.operators.specs.Literal.{literal, covered};
 
 use interval::{Constant, Interval};
@@ -25,8 +25,8 @@ fn range_of(interval: Interval) -> Option<Range>
     }
 }
 
-fn interval_of(range: Option<Range>) -> Interval
-    ensures { result ≡ interval_of range }
+fn interval_from(range: Option<Range>) -> Interval
+    ensures { result ≡ interval_from range }
 {
     let Some(range) = range else {
         return Interval::Unbounded;
@@ -40,7 +40,7 @@ pub fn unary(op: UnaryOp, interval: Interval) -> Interval
 {
     match (op, interval) {
         (_, Interval::Bottom) => Interval::Bottom,
-        (UnaryOp::Negate, _) => interval_of(range_of(interval).and_then(Range::negation)),
+        (UnaryOp::Negate, _) => interval_from(range_of(interval).and_then(Range::negation)),
         (UnaryOp::BitwiseNot, _) => Interval::Unbounded,
     }
 }
@@ -72,7 +72,7 @@ pub fn binary(op: BinaryOp, x: Interval, y: Interval) -> Interval
     let (Some(a), Some(b)) = (range_of(x), range_of(y)) else {
         return Interval::Unbounded;
     };
-    interval_of(arithmetic(op, a, b))
+    interval_from(arithmetic(op, a, b))
 }
 
 pub fn is_difference(op: BinaryOp) -> bool

@@ -25,7 +25,7 @@ use Rattle.rows.proofs.Good.{Good, join_good}
 use Rattle.widening.specs.declared.Growth.{Growth}
 use Rattle.widening.specs.Widening.{widen}
 use Rattle.widening.proofs.Rule.{widen_contains, widen_proper, widen_steady, widen_lives}
-use Rattle.passes.specs.Step.{Grown, grown, within, compared, widen_value, grow}
+use Rattle.passes.specs.Step.{Grown, grown, within, with_change, widen_value, grow}
 
 -- ---- a wider interval
 
@@ -41,9 +41,9 @@ module _ {K : Type 0} (num : K → Option ℤ) (Key : ℕ → K → Type 0) wher
       go (some n) p = f n p
 
 module _ (width : ℕ) (thresholds : List ℤ) (old candidate : Value) (g : Growth) where
-  -- what is made of the joined value, whatever it is compared with
+  -- what is made of the joined value, whatever it is with_change with
   widened : (P : Grown → Type 0) (v : Value) → Ensures (λ w. (t : Bool) → P (grown (within w.interval v) w.growth t)) (widen thresholds old.bound.interval v.bound.interval g) → Ensures P (widen_value thresholds old v g)
-  unfolding widen_value compared
+  unfolding widen_value with_change
   widened P v h = bind (by_through _ _ _ _ _ h) (λ w p. bind (any_value _) (λ s _. by_pure _ (p (not s))))
 
   pub grow_good : All Number thresholds → Good old → Good candidate → Ensures (λ w. Good w.value) (grow width thresholds old candidate g)
@@ -62,7 +62,7 @@ module _ (width : ℕ) (thresholds : List ℤ) (old candidate : Value) (g : Grow
         (λ v i. widened (λ w. In num Key w.value k) v (weaken (λ w c s. within_in num Key w.interval v k c i) (widen_contains thresholds old.bound.interval v.bound.interval g))))
 
     pub grow_same : Ensures (λ w. w.changed ≡ false → (In num Key old k ↔ In num Key w.value k)) (grow width thresholds old candidate g)
-    unfolding grow widen_value compared
+    unfolding grow widen_value with_change
     grow_same =
         then (work 1)
         (bind (any_value _) (λ v _. bind (any_value _) (λ w _. bind (by_through _ _ _ _ _ (same_in num Key old (within w.interval v) k)) (λ s f. by_pure _ (λ e. f (was_true s e))))))
@@ -72,7 +72,7 @@ module _ (width : ℕ) (thresholds : List ℤ) (old candidate : Value) (g : Grow
         was_true false e = cc
 
   pub grow_lives : Lives 0 (λ w. entries_of w.value) (grow width thresholds old candidate g)
-  unfolding grow widen_value compared
+  unfolding grow widen_value with_change
   grow_lives =
       live_then (live_work 1)
       (live_bind (live_as size_is (join_lives width old candidate))
@@ -81,7 +81,7 @@ module _ (width : ℕ) (thresholds : List ℤ) (old candidate : Value) (g : Grow
       (λ w. live_bind (live_beside (entries_of v) (same_lives old (within w.interval v))) (λ s. live_pure (entries_of v) _ refl))))
 
   pub grow_steady : Steady (grow width thresholds old candidate g)
-  unfolding grow widen_value compared
+  unfolding grow widen_value with_change
   grow_steady =
       steady_then (steady_unit (work 1))
       (steady_bind (join_steady width old candidate)

@@ -4,6 +4,7 @@ use mathlib.Core.Path.{◌≡◌, refl, sym, ap, ◌∙◌}
 use mathlib.Core.Bool.{Bool, true, false}
 use mathlib.Core.List.{List}
 use lib.IntN.{ℤ}
+use Rattle.limits.specs.Context.{Context}
 use Rattle.std.proofs.Common.{Result, Ok, Err}
 use Rattle.limits.specs.declared.Stop.{Stop}
 use Rattle.limits.specs.declared.Budget.{Budget}
@@ -11,8 +12,8 @@ use Rattle.limits.specs.Metered.{Run, going, stopped, answered}
 use Rattle.limits.specs.Budget.{released}
 use Rattle.limits.proofs.Monad.{pure_is, bind_on, bind_stop, through_on, through_stop}
 use Rattle.slots.specs.Slots.{total}
-use Rattle.store.specs.Store.{Context}
-use Rattle.rounds.specs.Round.{Given, standing, course, image, blank, candidates_of, candidates, moved}
+use Rattle.rows.specs.Row.{moved}
+use Rattle.rounds.specs.Round.{Given, standing, course, image, blank, candidates_of, candidates}
 use Rattle.passes.specs.Step.{steps, advance}
 use Rattle.passes.specs.Pass.{Ascent, ascent, in_course, replaced, renew, pass, ascend}
 use Rattle.passes.proofs.Rounds.{left, fewer_left, more, pass_pays, ascend_any, ascend_first}

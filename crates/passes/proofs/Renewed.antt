@@ -21,19 +21,19 @@ use Rattle.limits.proofs.Monad.{Holds, Ensures}
 use Rattle.limits.proofs.Ends.{Ends, completes, stops, ends_pure, ends_bind, ends_through}
 use Rattle.limits.proofs.Live.{LiveIn, Lives}
 use Rattle.lattice.specs.Value.{Value}
-use Rattle.rows.specs.Row.{entries_of, value_at, put}
+use Rattle.rows.specs.Row.{entries_of, value_at, put, moved}
 use Rattle.rows.proofs.Good.{Good}
 use Rattle.rows.proofs.RowLaws.{length_put, put_back, put_other}
 use Rattle.slots.specs.Slots.{total}
 use Rattle.slots.proofs.Live.{formed_put, total_before}
-use Rattle.store.specs.Store.{Context}
-use Rattle.seeds.specs.Seed.{loses}
+use Rattle.limits.specs.Context.{Context}
+use Rattle.lattice.specs.Lattice.{loses}
 use Rattle.widening.specs.declared.Growth.{Growth}
 use Rattle.widening.specs.Widening.{growth_at, put_growth}
-use Rattle.rounds.specs.Round.{blank, moved}
+use Rattle.rounds.specs.Round.{blank}
 use Rattle.rounds.proofs.Live.{Room, blank_formed}
-use Rattle.rounds.proofs.Moved.{length_moved, moved_row, moved_formed, moved_total}
-use Rattle.passes.specs.Step.{Grown, grow, Steps, steps, counting, stepped, step, holding_next, advance}
+use Rattle.slots.proofs.Moved.{length_moved, moved_row, moved_formed, moved_total}
+use Rattle.passes.specs.Step.{Grown, grow, Steps, steps, count_lost, advanced, advance_one, holding_next, advance}
 use Rattle.passes.specs.Pass.{Ascent, ascent, replaced, renew}
 
 -- one argument: R of its new value, which is one that the engine makes, and the entries of that value are live
@@ -69,21 +69,21 @@ module _ (thresholds : List ℤ) (current candidates : List ℕ) (R : ℕ → Va
     pub room : Room 256 s.next
     pub rows : (j : ℕ) → j < k → Row (R j) (value_at s.next j) changed
 
-  counted : (lost : Bool) (b : Budget) → (counting lost b).statistics.entries ≡ b.statistics.entries
+  counted : (lost : Bool) (b : Budget) → (count_lost lost b).statistics.entries ≡ b.statistics.entries
   counted true b = refl
   counted false b = refl
 
   one : (e k : ℕ) → k < 256 → (changed : Bool) (s : Steps) → Done e k changed s → (x : Run Stop Meter Grown) → LiveIn s.budget.statistics.entries (λ g. entries_of g.value) x →
       Holds (λ g. Good g.value × R k g.value g.changed) x →
-      Ends (λ moved t. Done e (k + 1) (changed || moved) t) (λ _ t. t.budget.statistics.entries ≡ e + total t.next k) (stepped k (value_at current k) s x)
+      Ends (λ moved t. Done e (k + 1) (changed || moved) t) (λ _ t. t.budget.statistics.entries ≡ e + total t.next k) (advanced k (value_at current k) s x)
   unfolding total
   one e k l changed s h (going g m) live w =
       let b = with_meter m s.budget in
       let back : value_at (put s.next k g.value) k ≡ g.value = put_back s.next k g.value (omega (arith, h.room.0)) w.0.formed in
-      let c : (counting (loses (value_at current k).values g.value.values) b).statistics.entries ≡ m.entries = counted (loses (value_at current k).values g.value.values) b in
+      let c : (count_lost (loses (value_at current k).values g.value.values) b).statistics.entries ≡ m.entries = counted (loses (value_at current k).values g.value.values) b in
       let size : entries_of (value_at (put s.next k g.value) k) ≡ entries_of g.value = ap entries_of back in
       completes {a = g.changed}
-      {s = steps (counting (loses (value_at current k).values g.value.values) b) (put s.next k g.value) (put_growth s.growth k g.growth)}
+      {s = steps (count_lost (loses (value_at current k).values g.value.values) b) (put s.next k g.value) (put_growth s.growth k g.growth)}
       record {
         live = rw (add-one k) (omega (arith, total_before s.next k g.value k (omega arith), h.live));
         room = (omega (arith, length_put s.next k g.value, h.room.0), formed_put s.next k g.value (omega (arith, h.room.0)) w.0 h.room.1);
@@ -103,16 +103,16 @@ module _ (thresholds : List ℤ) (current candidates : List ℕ) (R : ℕ → Va
 
   pub advance_ends : (e k n : ℕ) → k + n ≤ 256 → (changed : Bool) (s : Steps) → Done e k changed s →
       Ends (λ c t. Done e (k + n) c t) (λ _ t. t.budget.statistics.entries ≡ e) (advance thresholds current candidates k n changed s)
-  unfolding advance step
+  unfolding advance advance_one
   advance_ends e k zero l changed s h = ends_pure changed s (rw (add-zero k) h)
   advance_ends e k (suc n) l changed s h =
       let q : k + suc n ≡ k + 1 + n = omega arith in
       rw q
-      (ends_bind {P = λ moved t. Done e (k + 1) (changed || moved) t} {Q = λ _ t. t.budget.statistics.entries ≡ e} (holding_next k (step thresholds current candidates k))
+      (ends_bind {P = λ moved t. Done e (k + 1) (changed || moved) t} {Q = λ _ t. t.budget.statistics.entries ≡ e} (holding_next k (advance_one thresholds current candidates k))
       (λ moved. advance thresholds current candidates (k + 1) n (changed || moved)) s
       (ends_through (λ t. t) (λ _ t. t) (λ _ t. steps (released (total t.next k) t.budget) t.next t.growth) (λ x. x)
       {P = λ moved t. Done e (k + 1) (changed || moved) t} {Q = λ _ t. t.budget.statistics.entries ≡ e + total t.next k}
-      (step thresholds current candidates k) s
+      (advance_one thresholds current candidates k) s
       (one e k (omega arith) changed s h (grow s.budget.limits.width thresholds (value_at current k) (value_at candidates k) (growth_at s.growth k) (meter_of s.budget)) ((each k s.budget.limits.width (growth_at s.growth k)).lives.at s.budget.statistics.entries (meter_of s.budget) (omega arith))
       ((each k s.budget.limits.width (growth_at s.growth k)).gives.at (meter_of s.budget)))
       (λ _ t z. z) (λ _ t z. omega arith))

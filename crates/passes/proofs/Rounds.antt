@@ -15,16 +15,16 @@ use Rattle.limits.specs.Meter.{meter_of, with_meter}
 use Rattle.limits.proofs.Ends.{Ends, completes, stops, ends_pure, ends_as, on_bind, where_going}
 use Rattle.rows.specs.Row.{value_at}
 use Rattle.slots.specs.Slots.{total}
-use Rattle.seeds.specs.Seed.{loses}
+use Rattle.lattice.specs.Lattice.{loses}
 use Rattle.widening.specs.Widening.{growth_at}
 use Rattle.rounds.specs.Round.{Given, course, blank, candidates}
 use Rattle.rounds.proofs.Pays.{Kept, Pays, kept_same, kept_metered, kept_released, kept_then, pays_then, candidates_pay}
-use Rattle.passes.specs.Step.{Grown, Steps, steps, counting, stepped, grow, step, advance}
+use Rattle.passes.specs.Step.{Grown, Steps, steps, count_lost, advanced, grow, advance_one, advance}
 use Rattle.passes.specs.Pass.{Ascent, ascent, replaced, renew, pass, passes, ascend}
 
 -- ---- the arguments of a pass charge no round
 
-kept_counting : (t : Bool) (b : Budget) → Kept b (counting t b)
+kept_counting : (t : Bool) (b : Budget) → Kept b (count_lost t b)
 kept_counting true b = record { limits = refl; rounds = refl }
 kept_counting false b = kept_same b
 
@@ -32,11 +32,11 @@ abbrev Stays : {A : Type 0} → Budget → A → Steps → Type 0
 Stays b a t = Kept b t.budget
 
 module _ (thresholds : List ℤ) (current cs : List ℕ) where
-  step_keeps : (k : ℕ) (s : Steps) → Ends (Stays s.budget) (Stays s.budget) (step thresholds current cs k s)
-  unfolding step
+  step_keeps : (k : ℕ) (s : Steps) → Ends (Stays s.budget) (Stays s.budget) (advance_one thresholds current cs k s)
+  unfolding advance_one
   step_keeps k s = go (grow s.budget.limits.width thresholds (value_at current k) (value_at cs k) (growth_at s.growth k) (meter_of s.budget))
     where
-      go : (x : Run Stop Meter Grown) → Ends (Stays s.budget) (Stays s.budget) (stepped k (value_at current k) s x)
+      go : (x : Run Stop Meter Grown) → Ends (Stays s.budget) (Stays s.budget) (advanced k (value_at current k) s x)
       go (going g m) = completes (kept_then (kept_metered m s.budget) (kept_counting (loses (value_at current k).values g.value.values) (with_meter m s.budget)))
       go (stopped e m) = stops (kept_metered m s.budget)
 
@@ -44,7 +44,7 @@ module _ (thresholds : List ℤ) (current cs : List ℕ) where
   unfolding advance
   advance_keeps k zero changed s = ends_pure changed s (kept_same s.budget)
   advance_keeps k (suc n) changed s =
-      on_bind _ _ _ _ (step thresholds current cs k) (λ moved. advance thresholds current cs (k + 1) n (changed || moved)) s (step_keeps k s)
+      on_bind _ _ _ _ (advance_one thresholds current cs k) (λ moved. advance thresholds current cs (k + 1) n (changed || moved)) s (step_keeps k s)
       (λ moved t h. ends_as (advance_keeps (k + 1) n (changed || moved) t) (λ a u i. kept_then h i) (λ e u i. kept_then h i))
       (λ e t h. kept_then h (kept_released (total t.next k) t.budget))
 

@@ -16,14 +16,14 @@ use Rattle.limits.proofs.Monad.{Agree}
 use Rattle.limits.proofs.Alike.{Alike, SteadyOn, on_pure, on_test, on_look, on_bind, on_through}
 use Rattle.limits.proofs.Ends.{Ends, where_going}
 use Rattle.lattice.specs.Value.{Value}
-use Rattle.rows.specs.Row.{value_at, put}
-use Rattle.seeds.specs.Seed.{loses}
+use Rattle.rows.specs.Row.{value_at, put, moved}
+use Rattle.lattice.specs.Lattice.{loses}
 use Rattle.widening.specs.Widening.{growth_at, put_growth}
 use Rattle.rounds.specs.declared.Course.{Course}
-use Rattle.rounds.specs.Round.{Given, blank, candidates, moved}
+use Rattle.rounds.specs.Round.{Given, blank, candidates}
 use Rattle.rounds.proofs.Pays.{Pays, candidates_pay}
 use Rattle.rounds.proofs.Steady.{candidates_steady}
-use Rattle.passes.specs.Step.{Grown, grow, Steps, steps, counting, stepped, step, advance}
+use Rattle.passes.specs.Step.{Grown, grow, Steps, steps, count_lost, advanced, advance_one, advance}
 use Rattle.passes.specs.Pass.{Ascent, in_course, replaced, renew, pass, passes, ascend}
 use Rattle.passes.proofs.Growing.{grow_steady}
 use Rattle.passes.proofs.Rounds.{left, ascend_any}
@@ -34,11 +34,11 @@ use Rattle.passes.proofs.Rounds.{left, ascend_any}
 abbrev shown : Steps → ℕ × (List ℕ × List ℕ)
 shown s = (s.budget.limits.width, (s.next, s.growth))
 
-same_width : (lost : Bool) (b : Budget) → (counting lost b).limits.width ≡ b.limits.width
+same_width : (lost : Bool) (b : Budget) → (count_lost lost b).limits.width ≡ b.limits.width
 same_width true b = refl
 same_width false b = refl
 
-stepped_alike : (k : ℕ) (old : Value) (s t : Steps) → shown s ≡ shown t → (x y : Run Stop Meter Grown) → Agree x y → Alike shown (stepped k old s x) (stepped k old t y)
+stepped_alike : (k : ℕ) (old : Value) (s t : Steps) → shown s ≡ shown t → (x y : Run Stop Meter Grown) → Agree x y → Alike shown (advanced k old s x) (advanced k old t y)
 stepped_alike k old s t e (going a m) (going b n) h = (
   ap (λ (g : Grown). g.changed) h,
   ap (λ (w : ℕ). (w, (put s.next k a.value, put_growth s.growth k a.growth))) (same_width (loses old.values a.value.values) _)
@@ -49,8 +49,8 @@ stepped_alike k old s t e (going a m) (stopped x n) h = tt
 stepped_alike k old s t e (stopped x m) y h = tt
 
 module _ (thresholds : List ℤ) (current candidates : List ℕ) where
-  on_step : (k : ℕ) → SteadyOn shown (step thresholds current candidates k)
-  unfolding step
+  on_step : (k : ℕ) → SteadyOn shown (advance_one thresholds current candidates k)
+  unfolding advance_one
   on_step k = record {
     same = λ s t e.
         stepped_alike k (value_at current k) s t e (made s) (made t)

@@ -1,13 +1,14 @@
 -- One pass, and passes until one changes nothing. 01, "The run and one round".
+use Rattle.limits.specs.Context.{Context}
 use Rattle.std.specs.Prelude.{ℕ, zero, suc, ◌-◌, Bool, false, cond, List, ℤ}
 use Rattle.limits.specs.declared.Stop.{Stop}
 use Rattle.limits.specs.declared.Budget.{Budget}
 use Rattle.limits.specs.Metered.{Run, going, stopped, Metered, pure, ◌>>=◌, zoom}
 use Rattle.limits.specs.Budget.{released}
 use Rattle.slots.specs.Slots.{total}
-use Rattle.store.specs.Store.{Context}
+use Rattle.rows.specs.Row.{moved}
 use Rattle.rounds.specs.declared.Course.{Course}
-use Rattle.rounds.specs.Round.{Given, course, blank, candidates, moved}
+use Rattle.rounds.specs.Round.{Given, course, blank, candidates}
 use Rattle.passes.specs.Step.{Steps, steps, advance}
 
 -- what a run hands on from pass to pass: the counts, the context in force, the current values, and how often sides have grown

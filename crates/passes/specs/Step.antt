@@ -8,10 +8,9 @@ use Rattle.limits.specs.declared.Meter.{Meter}
 use Rattle.limits.specs.Meter.{work, holding, meter_of, with_meter}
 use Rattle.interval.specs.declared.Interval.{Interval}
 use Rattle.lattice.specs.Value.{Value, value}
-use Rattle.lattice.specs.Lattice.{join, same}
+use Rattle.lattice.specs.Lattice.{join, same, loses}
 use Rattle.rows.specs.Row.{entries_of, value_at, put}
 use Rattle.slots.specs.Slots.{total}
-use Rattle.seeds.specs.Seed.{loses}
 use Rattle.widening.specs.declared.Growth.{Growth}
 use Rattle.widening.specs.Widening.{widen, growth_at, put_growth}
 
@@ -28,15 +27,15 @@ grown v g c = record { value = v; growth = g; changed = c }
 abbrev pub within : Interval → Value → Value
 within i v = value (record { integrality = v.bound.integrality; interval = i }) v.values v.widening
 
--- a new value compared with the old one, and dropped where this is stopped
-unfoldable pub compared : Value → Value → Growth → Metered Stop Meter Grown
-compared old v g = holding (entries_of v) (same old v) >>= (λ s. pure (grown v g (not s)))
+-- a new value with_change with the old one, and dropped where this is stopped
+unfoldable pub with_change : Value → Value → Growth → Metered Stop Meter Grown
+with_change old v g = holding (entries_of v) (same old v) >>= (λ s. pure (grown v g (not s)))
 
--- a joined value widened and compared
+-- a joined value widened and with_change
 unfoldable pub widen_value : List ℤ → Value → Value → Growth → Metered Stop Meter Grown
 widen_value thresholds old v g = do
   w ← holding (entries_of v) (widen thresholds old.bound.interval v.bound.interval g)
-  compared old (within w.interval v) w.growth
+  with_change old (within w.interval v) w.growth
 
 -- 01: "each old value is joined with its new one and its interval widened"
 unfoldable pub grow : ℕ → List ℤ → Value → Value → Growth → Metered Stop Meter Grown
@@ -57,19 +56,19 @@ abbrev pub steps : Budget → List ℕ → List ℕ → Steps
 steps b n g = record { budget = b; next = n; growth = g }
 
 -- an argument that has lost its list is counted
-abbrev pub counting : Bool → Budget → Budget
-counting lost b = cond lost (widened_once b) b
+abbrev pub count_lost : Bool → Budget → Budget
+count_lost lost b = cond lost (widened_once b) b
 
-abbrev pub stepped : ℕ → Value → Steps → Run Stop Meter Grown → Run Stop Steps Bool
-stepped k old s (going g m) =
+abbrev pub advanced : ℕ → Value → Steps → Run Stop Meter Grown → Run Stop Steps Bool
+advanced k old s (going g m) =
     going g.changed
-    (steps (counting (loses old.values g.value.values) (with_meter m s.budget)) (put s.next k g.value) (put_growth s.growth k g.growth))
-stepped k old s (stopped e m) = stopped e (steps (with_meter m s.budget) s.next s.growth)
+    (steps (count_lost (loses old.values g.value.values) (with_meter m s.budget)) (put s.next k g.value) (put_growth s.growth k g.growth))
+advanced k old s (stopped e m) = stopped e (steps (with_meter m s.budget) s.next s.growth)
 
 -- the k-th argument
-unfoldable pub step : List ℤ → List ℕ → List ℕ → ℕ → Metered Stop Steps Bool
-step thresholds current candidates k s =
-    stepped k (value_at current k) s
+unfoldable pub advance_one : List ℤ → List ℕ → List ℕ → ℕ → Metered Stop Steps Bool
+advance_one thresholds current candidates k s =
+    advanced k (value_at current k) s
     (grow s.budget.limits.width thresholds (value_at current k) (value_at candidates k) (growth_at s.growth k) (meter_of s.budget))
 
 -- m while the first n of the next values are live, which are dropped where m is stopped
@@ -80,4 +79,4 @@ holding_next n m = on_stop (λ s. steps (released (total s.next n) s.budget) s.n
 unfoldable pub advance : List ℤ → List ℕ → List ℕ → ℕ → ℕ → Bool → Metered Stop Steps Bool
 advance thresholds current candidates k zero changed = pure changed
 advance thresholds current candidates k (suc n) changed =
-    holding_next k (step thresholds current candidates k) >>= (λ moved. advance thresholds current candidates (k + 1) n (changed || moved))
+    holding_next k (advance_one thresholds current candidates k) >>= (λ moved. advance thresholds current candidates (k + 1) n (changed || moved))

@@ -4,11 +4,10 @@
 #![tactic(auto)]
 
 ghost use Rattle.std.specs.Prelude.{◌≡◌, false};
-ghost use Rattle.limits.specs.Metered.{answered};
-ghost use Rattle.lists.specs.Ids.{seen};
+ghost use Rattle.limits.specs.Metered.{answered, seen};
 ghost use Rattle.lattice.specs.Value.{value_of};
 ghost use Rattle.rounds.specs.Lent.{given_in};
-ghost use Rattle.passes.specs.Step.{within, compared, widen_value, grow, steps, step, advance};
+ghost use Rattle.passes.specs.Step.{within, with_change, widen_value, grow, steps, advance_one, advance};
 ghost use Rattle.passes.specs.Pass.{ascent, renew, pass, ascend};
 ghost use Rattle.passes.specs.Lent.{grown_in};
 
@@ -38,8 +37,8 @@ fn within(interval: Interval, value: Abstract) -> Abstract
 }
 
 // A new value compared with the old one, and dropped where this is stopped.
-fn compare(old: Abstract, value: Abstract, growth: Growth, meter: &mut Meter) -> Result<Grown, Stop>
-    ensures { seen grown_in result meter.new ≡ compared (value_of old) (value_of value) growth meter.old }
+fn with_change(old: Abstract, value: Abstract, growth: Growth, meter: &mut Meter) -> Result<Grown, Stop>
+    ensures { seen grown_in result meter.new ≡ with_change (value_of old) (value_of value) growth meter.old }
 {
     let same = old.same(value, meter);
     let same = meter.holding(rows::entries_of(value), same)?;
@@ -68,7 +67,7 @@ fn widen_value(
         meter,
     );
     let wide = meter.holding(rows::entries_of(value), wide)?;
-    compare(old, within(wide.interval, value), wide.growth, meter)
+    with_change(old, within(wide.interval, value), wide.growth, meter)
 }
 
 // One argument: the old value joined with its candidate and widened.
@@ -88,7 +87,7 @@ fn grow(
 }
 
 // One argument of a pass, in tables: whether it has changed. One that has lost its list is counted.
-fn step(
+fn advance_one(
     thresholds: &[i32],
     current: &[u32],
     candidates: &[u32],
@@ -97,7 +96,7 @@ fn step(
     argument: usize,
     budget: &mut Budget,
 ) -> Result<bool, Stop>
-    ensures { answered result (steps budget.new next.new growth.new) ≡ step thresholds.now current.now candidates.now argument (steps budget.old next.old growth.old) }
+    ensures { answered result (steps budget.new next.new growth.new) ≡ advance_one thresholds.now current.now candidates.now argument (steps budget.old next.old growth.old) }
 {
     let old = rows::abstract_at(current, argument);
     let candidate = rows::abstract_at(candidates, argument);
@@ -109,7 +108,7 @@ fn step(
     let grown = grown?;
     rows::put_abstract(next, argument, grown.value);
     widening::put_growth(growth, argument, grown.growth);
-    if seeds::is_lost(old, grown.value) {
+    if lattice::is_lost(&old, &grown.value) {
         budget.count_widened();
     }
     Ok(grown.changed)
@@ -129,10 +128,10 @@ fn advance(
 {
     let mut changed = false;
     for i in 0..count {
-        match step(thresholds, current, candidates, next, growth, i, budget) {
+        match advance_one(thresholds, current, candidates, next, growth, i, budget) {
             Ok(moved) => changed |= moved,
             Err(stop) => {
-                rounds::without_rows(next, i, budget);
+                slots::without_rows(next, i, budget);
                 return Err(stop);
             }
         }
@@ -161,10 +160,10 @@ fn renew(
         growth,
         &mut course.budget,
     );
-    rounds::without_rows(candidates, positions, &mut course.budget);
+    slots::without_rows(candidates, positions, &mut course.budget);
     let changed = advanced?;
-    rounds::without_rows(current, positions, &mut course.budget);
-    rounds::move_rows(&next, current, positions);
+    slots::without_rows(current, positions, &mut course.budget);
+    rows::move_rows(&next, current, positions);
     Ok(changed)
 }
 

@@ -1,4 +1,5 @@
 -- What the checks of a rule leave, over plain variables.
+use Rattle.limits.specs.Context.{Context}
 use Rattle.sizes.specs.Sizes as size
 use Prim.Native.Nat.{ℕ, suc, ◌+◌, ◌<◌, ◌≤◌}
 use native.Mathlib.Omega.{arith}
@@ -31,13 +32,13 @@ use Rattle.rules.specs.declared.Rule.{Rule}
 use Rattle.rules.specs.Rule.{heads_of, put_rule}
 use Rattle.integers.proofs.Tests.{and_left, and_right}
 use Rattle.store.specs.declared.Store.{Store}
-use Rattle.store.specs.Store.{Context, admits, with_budget, with_rules}
-use Rattle.store.specs.Calls.{unless, charged}
+use Rattle.store.specs.Store.{admits, with_budget, with_rules}
+use Rattle.store.specs.Calls.{unless, billing}
 use Rattle.store.proofs.CodeLaws.{charged_then_stop, charged_then_on}
 use Rattle.provenance.specs.Provenance.{Records, records, provenance, recordable, Room}
 use Rattle.provenance.proofs.Frame.{provenance_left}
 use Rattle.std.proofs.Common.{None, Some}
-use Rattle.producers.specs.Producer.{Scope, step, each, slot_in, check_node, check_in, check_expression, check_value, checking, check_head, check_heads, shapely, sizes, spacious, cost, scope_of, check_body, check_rule, Tables, tables, in_header, in_records, add_rule, rule_call}
+use Rattle.producers.specs.Producer.{Scope, unit, each, slot_in, check_node, check_in, check_expression, check_value, checking, check_head, check_heads, shapely, sized, spacious, cost, scope_of, check_body, check_rule, Tables, tables, in_header, in_records, add_rule, rule_call}
 
 abbrev Check : Type 0
 Check = Metered Told Meter (Unit {0})
@@ -45,10 +46,10 @@ Check = Metered Told Meter (Unit {0})
 -- ---- one unit of work, and slots
 
 module _ (m : Meter) where
-  pub step_on : {t : Meter} → going tt t ≡ inner.work 1 m → going tt t ≡ step m
+  pub step_on : {t : Meter} → going tt t ≡ inner.work 1 m → going tt t ≡ unit m
   step_on h = through_on (λ s. s) (λ _ t. t) (λ _ t. t) (λ e. told (Limit e)) (inner.work 1) m h
 
-  pub step_off : {e : Stop} {t : Meter} → stopped e t ≡ inner.work 1 m → stopped (told (Limit e)) t ≡ step m
+  pub step_off : {e : Stop} {t : Meter} → stopped e t ≡ inner.work 1 m → stopped (told (Limit e)) t ≡ unit m
   step_off h = through_stop (λ s. s) (λ _ t. t) (λ _ t. t) (λ e. told (Limit e)) (inner.work 1) m h
 
 pub slot_there : (slots slot : ℕ) (m : Meter) → slot < slots → going tt m ≡ slot_in slots slot m
@@ -65,11 +66,11 @@ node_same f g slots id (Binary op l r) b h = rw (h r b.1, h l b.0)
 node_same f g slots id (Unknown i w) b h = refl
 
 abbrev check_step : Scope → (ℕ → Check) → ℕ → Check
-check_step s f id = step >> unless (λ _. ltb id s.expressions) Missing (check_node f s.slots (expression_at s.nodes id))
+check_step s f id = unit >> unless (λ _. ltb id s.expressions) Missing (check_node f s.slots (expression_at s.nodes id))
 
 check_near : (s : Scope) (f g : ℕ → Check) (id : ℕ) → ((j : ℕ) → j < id → f j ≡ g j) → check_step s f id ≡ check_step s g id
 check_near s f g id h =
-    ap (λ (c : Check). step >> unless (λ _. ltb id s.expressions) Missing c)
+    ap (λ (c : Check). unit >> unless (λ _. ltb id s.expressions) Missing c)
     (node_same f g s.slots id (expression_at s.nodes id) (below s.nodes id refl (expression_at s.nodes id) refl) h)
 
 check_open : (s : Scope) (id : ℕ) → check_expression s id ≡ check_step s (check_expression s) id
@@ -100,7 +101,7 @@ module _ {A : Type 0} (f : A → Check) (items : List A) (i : ℕ) (m : Meter) w
   each_end h = rw (drop_of_length-le items {i = i} h) (pure_is tt m)
 
   module _ (z : A) (here : z ≡ get_or items i z) (h : i < length items) where
-    next : {y : Run Told Meter (Unit {0})} → y ≡ (step >> f z >> each f (drop (suc i) items)) m → y ≡ each f (drop i items) m
+    next : {y : Run Told Meter (Unit {0})} → y ≡ (unit >> f z >> each f (drop (suc i) items)) m → y ≡ each f (drop i items) m
     unfolding each
     next k = k ∙ ap (λ (l : List A). each f l m) (ap (λ (a : A). a ∷ drop (suc i) items) here ∙ sym (drop-cons items i z h))
 
@@ -249,11 +250,11 @@ room_fewer (Some c) n k h r = omega arith
 -- ---- what a rule charges
 
 module _ (r : Rule) (s : Store) where
-  pub cost_unpaid : (f : Refusal) {u : Store} → stopped (told f) u ≡ charged (work 1) s → stopped (told f) u ≡ charged (cost r) s
+  pub cost_unpaid : (f : Refusal) {u : Store} → stopped (told f) u ≡ billing (work 1) s → stopped (told f) u ≡ billing (cost r) s
   unfolding cost
   cost_unpaid f h = charged_then_stop (work 1) (links (r.slots + r.lengths.bindings + r.lengths.guards + r.lengths.heads + 1)) s h
 
-  pub cost_paid : {u : Store} → going tt u ≡ charged (work 1) s → {y : Run Told Store (Unit {0})} → y ≡ charged (links (r.slots + r.lengths.bindings + r.lengths.guards + r.lengths.heads + 1)) u → y ≡ charged (cost r) s
+  pub cost_paid : {u : Store} → going tt u ≡ billing (work 1) s → {y : Run Told Store (Unit {0})} → y ≡ billing (links (r.slots + r.lengths.bindings + r.lengths.guards + r.lengths.heads + 1)) u → y ≡ billing (cost r) s
   unfolding cost
   cost_paid h k = charged_then_on (work 1) (links (r.slots + r.lengths.bindings + r.lengths.guards + r.lengths.heads + 1)) s h k
 
@@ -269,21 +270,21 @@ module _ (nodes : List ℕ) (r : Rule) (s : Store) (t : List ℕ) where
   unfolding check_rule
   rule_heads p q = then_on _ (records s t) _ (through_on (λ r. r.header) (λ r s. records s r.table) (λ r s. records s r.table) (λ e. e) _ (records s t) p) q
 
-module _ (nodes : List ℕ) (r : Rule) (s : Store) (rules p : List ℕ) (ea : sizes (length nodes) (length rules) (length p) ≡ true) (eb : shapely r ≡ true) (ec : admits s.phase ≡ true) (ed : spacious s ≡ true) where
-  pub call_unpaid : {x : Told} {u : Store} → stopped x u ≡ charged (cost r) s → stopped x (tables u rules p) ≡ rule_call nodes r (tables s rules p)
+module _ (nodes : List ℕ) (r : Rule) (s : Store) (rules p : List ℕ) (ea : sized (length nodes) (length rules) (length p) ≡ true) (eb : shapely r ≡ true) (ec : admits s.phase ≡ true) (ed : spacious s ≡ true) where
+  pub call_unpaid : {x : Told} {u : Store} → stopped x u ≡ billing (cost r) s → stopped x (tables u rules p) ≡ rule_call nodes r (tables s rules p)
   unfolding rule_call
   call_unpaid h =
       rw (ea, eb, ec, ed)
-      (then_stop (in_header (charged (cost r))) (tables s rules p) _
-      (through_stop (λ t. t.header) (λ t s. tables s t.rules t.records) (λ t s. tables s t.rules t.records) (λ e. e) (charged (cost r)) (tables s rules p) h))
+      (then_stop (in_header (billing (cost r))) (tables s rules p) _
+      (through_stop (λ t. t.header) (λ t s. tables s t.rules t.records) (λ t s. tables s t.rules t.records) (λ e. e) (billing (cost r)) (tables s rules p) h))
 
-  module _ {u : Store} (h : going tt u ≡ charged (cost r) s) where
+  module _ {u : Store} (h : going tt u ≡ billing (cost r) s) where
     paid : {z : Run Told Tables ℕ} → z ≡ (in_records (check_rule nodes r) >> add_rule r) (tables u rules p) → z ≡ rule_call nodes r (tables s rules p)
     unfolding rule_call
     paid k =
         rw (ea, eb, ec, ed)
-        (then_on (in_header (charged (cost r))) (tables s rules p) _
-        (through_on (λ t. t.header) (λ t s. tables s t.rules t.records) (λ t s. tables s t.rules t.records) (λ e. e) (charged (cost r)) (tables s rules p) h) k)
+        (then_on (in_header (billing (cost r))) (tables s rules p) _
+        (through_on (λ t. t.header) (λ t s. tables s t.rules t.records) (λ t s. tables s t.rules t.records) (λ e. e) (billing (cost r)) (tables s rules p) h) k)
 
     pub call_refused : {x : Told} {v : Store} {p' : List ℕ} → stopped x (records v p') ≡ check_rule nodes r (records u p) → stopped x (tables v rules p') ≡ rule_call nodes r (tables s rules p)
     call_refused k =

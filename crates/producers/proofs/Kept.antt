@@ -28,20 +28,20 @@ use Rattle.rules.specs.declared.Head.{Head}
 use Rattle.rules.specs.declared.Rule.{Rule}
 use Rattle.rules.specs.Rule.{bindings_of, guards_of, heads_of}
 use Rattle.rules.proofs.RuleLaws.{Short, SmallContext, Row, rule_back, rule_kept, length_rule}
-use Rattle.store.specs.Store.{Context}
+use Rattle.limits.specs.Context.{Context}
 use Rattle.std.proofs.Common.{None, Some}
 use Rattle.store.specs.declared.Store.{Store}
 use Rattle.store.specs.Store.{with_budget, with_rules, with_provenance}
-use Rattle.store.specs.Calls.{open?, charged}
+use Rattle.store.specs.Calls.{open?, billing}
 use Rattle.store.proofs.Frame.{Spent, spent_none, spent_more, Spends, spends_then, spends_work, spends_links, Charging, charging_none}
 use Rattle.provenance.specs.Provenance.{Records, records, paying, add_record, record_in, provenance, recordable}
 use Rattle.provenance.proofs.Frame.{Recording, recording_none, recording_more, recording_fewer, Unrecorded, provenance_left}
-use Rattle.producers.specs.Producer.{Scope, checking, in_store, check_value, check_head, check_heads, Tables, tables, in_header, in_records, shapely, sizes, spacious, cost, scope_of, check_body, add_rule, check_rule, rule_call}
+use Rattle.producers.specs.Producer.{Scope, checking, in_store, check_value, check_head, check_heads, Tables, tables, in_header, in_records, shapely, sized, spacious, cost, scope_of, check_body, add_rule, check_rule, rule_call}
 use Rattle.producers.proofs.Scoped.{Late, Finds, BindingIn, GuardIn, HeadIn, RuleIn, rule_small, finds_value, finds_body}
 
 -- ---- charges, with what they refuse
 
-charged_ends : {A : Type 0} {m : Metered Stop Budget A} → Spends m → (s : Store) → Ends (λ _ t. Charging s t) (λ e t. Late e × Charging s t) (charged m s)
+charged_ends : {A : Type 0} {m : Metered Stop Budget A} → Spends m → (s : Store) → Ends (λ _ t. Charging s t) (λ e t. Late e × Charging s t) (billing m s)
 charged_ends {m = m} h s =
     ends_through (λ t. t) (λ _ t. t) (λ _ t. t) (λ e. told (Limit e)) _ s
     (ends_through (λ t. t.budget) (λ t b. with_budget b t) (λ t b. with_budget b t) (λ e. e) m s (h.at s.budget) (λ _ b p. record { budget = b; spent = p; is = refl }) (λ _ b p. record { budget = b; spent = p; is = refl }))
@@ -123,7 +123,7 @@ module _ (a : ℕ) (r : Records) where
       go l None = ends_pure tt r (l, record { few = omega arith; grows = omega arith; older = λ m k. refl; size = refl })
       go l (Some c) =
           ends_then {P = λ _ t. Unrecorded r t} {Q = λ e _. Late e} (paying (links 1)) (add_record a c) r
-          (ends_through (λ t. t.header) (λ t s. records s t.table) (λ t s. records s t.table) (λ e. e) (charged (links 1)) r (charged_ends (spends_links 1) r.header)
+          (ends_through (λ t. t.header) (λ t s. records s t.table) (λ t s. records s t.table) (λ e. e) (billing (links 1)) r (charged_ends (spends_links 1) r.header)
           (λ _ s h. (h, refl)) (λ e s h. h.0))
           (λ _ t h. completes (l, new t c h))
           (λ e t h. h)
@@ -199,7 +199,7 @@ pub record Accepted (nodes : List ℕ) (r : Rule) (t : Tables) (id : ℕ) (u : T
   pub size : length u.rules ≡ length t.rules
   -- there are at most 16 records more
   pub recorded : Longer 16 t.header.counts.provenance t.records u.header.counts.provenance u.records
-  -- there is one rule more. All else of the header is as before, but for what the budget has charged
+  -- there is one rule more. All else of the header is as before, but for what the budget has billing
   pub budget : Budget
   pub spent : Spent t.header.budget budget
   pub is : u.header ≡ with_rules (t.header.counts.rules + 1) (with_provenance u.header.counts.provenance (with_budget budget t.header))
@@ -209,14 +209,14 @@ pub record Refused (t : Tables) (e : Told) (u : Tables) : Type 0 where
   pub rules : u.rules ≡ t.rules
   -- heads that passed may have left records, at most 16
   pub recorded : Longer 16 t.header.counts.provenance t.records u.header.counts.provenance u.records
-  -- all else of the header, the count of rules too, is as before, but for what the budget has charged
+  -- all else of the header, the count of rules too, is as before, but for what the budget has billing
   pub budget : Budget
   pub spent : Spent t.header.budget budget
   pub is : u.header ≡ with_provenance u.header.counts.provenance (with_budget budget t.header)
   -- refusals 1 and 2 leave everything as it was
   pub early : e.number ≤ 2 → u ≡ t
 
--- refused before anything is charged
+-- refused before anything is billing
 refused_whole : (t : Tables) (e : Refusal) → Refused t (told e) t
 refused_whole t e = record {
   rules = refl;
@@ -266,7 +266,7 @@ spacious_roomy s h =
       positions = leb-true s.counts.positions 256 (and_left c d (and_right b (c && d) p));
     }
 
-sizes_rules : (nodes rules recorded : ℕ) → sizes nodes rules recorded ≡ true → rules ≡ size.rule_cells
+sizes_rules : (nodes rules recorded : ℕ) → sized nodes rules recorded ≡ true → rules ≡ size.rule_cells
 sizes_rules nodes rules recorded h =
     let a = eqb nodes size.node_cells in
     let b = eqb rules size.rule_cells in
@@ -338,10 +338,10 @@ module _ (nodes : List ℕ) (r : Rule) (t : Tables) (long : length t.rules ≡ s
         (λ _ u p. p)
         (λ e u p. p)
 
-  charge_ends : Ends (Accepted nodes r t) (Refused t) ((in_header (charged (cost r)) >> in_records (check_rule nodes r) >> add_rule r) t)
+  charge_ends : Ends (Accepted nodes r t) (Refused t) ((in_header (billing (cost r)) >> in_records (check_rule nodes r) >> add_rule r) t)
   charge_ends =
-      ends_then {P = λ _ u. Ends (Accepted nodes r t) (Refused t) ((in_records (check_rule nodes r) >> add_rule r) u)} {Q = Refused t} (in_header (charged (cost r))) (in_records (check_rule nodes r) >> add_rule r) t
-      (ends_through (λ u. u.header) (λ u s. tables s u.rules u.records) (λ u s. tables s u.rules u.records) (λ e. e) (charged (cost r)) t (charged_ends (spends_cost r) t.header)
+      ends_then {P = λ _ u. Ends (Accepted nodes r t) (Refused t) ((in_records (check_rule nodes r) >> add_rule r) u)} {Q = Refused t} (in_header (billing (cost r))) (in_records (check_rule nodes r) >> add_rule r) t
+      (ends_through (λ u. u.header) (λ u s. tables s u.rules u.records) (λ u s. tables s u.rules u.records) (λ e. e) (billing (cost r)) t (charged_ends (spends_cost r) t.header)
       (λ _ s h.
       subst (λ (s : Store). Ends (Accepted nodes r t) (Refused t) ((in_records (check_rule nodes r) >> add_rule r) (tables s t.rules t.records))) (sym h.is)
       (checked_ends h.budget h.spent))
@@ -356,7 +356,7 @@ module _ (nodes : List ℕ) (r : Rule) (t : Tables) (long : length t.rules ≡ s
 pub rule_ends : (nodes : List ℕ) (r : Rule) (t : Tables) → SmallContext t.header.context → Ends (Accepted nodes r t) (Refused t) (rule_call nodes r t)
 unfolding rule_call
 rule_ends nodes r t small =
-    ends_test (sizes (length nodes) (length t.rules) (length t.records))
+    ends_test (sized (length nodes) (length t.rules) (length t.records))
     (λ long.
     ends_test (shapely r)
     (λ shape.

@@ -37,7 +37,7 @@ use Rattle.rules.specs.declared.Head.{Head}
 use Rattle.rules.specs.declared.Rule.{Rule}
 use Rattle.rules.specs.Rule.{bindings_of, guards_of, heads_of}
 use Rattle.rules.proofs.RuleLaws.{Short, SmallBinding, SmallGuard, Small}
-use Rattle.producers.specs.Producer.{Scope, scope, step, each, slot_in, check_node, check_in, check_expression, check_pair, check_value, check_binding, check_guard, check_body}
+use Rattle.producers.specs.Producer.{Scope, scope, unit, each, slot_in, check_node, check_in, check_expression, check_pair, check_value, check_binding, check_guard, check_body}
 
 -- ---- what is in scope
 
@@ -103,7 +103,7 @@ work_entries k m = go (charge_of Work m.work k m.max_work)
     go (Ok n) = completes refl
     go (Err e) = stops refl
 
-pub finds_step : Finds (Unit {0}) step
+pub finds_step : Finds (Unit {0}) unit
 finds_step = record {
   at = λ m.
       ends_through (λ s. s) (λ _ t. t) (λ _ t. t) (λ e. told (Limit e)) (work 1) m (work_entries 1 m) (λ _ n p. (tt, p)) (λ e n p. (limit_late e.resource, p));

@@ -22,7 +22,7 @@ use Rattle.rules.specs.declared.Rule.{Rule}
 use Rattle.rules.specs.Rule.{bindings_of, guards_of, heads_of, put_rule}
 use Rattle.store.specs.declared.Store.{Store}
 use Rattle.store.specs.Store.{with_budget, with_rules}
-use Rattle.store.specs.Calls.{unless, open?, charged}
+use Rattle.store.specs.Calls.{unless, open?, billing}
 use Rattle.provenance.specs.Provenance.{Records, records, provenance, recordable}
 
 -- ---- the scope of a rule: the expressions that stand, and its slots
@@ -36,13 +36,13 @@ abbrev pub scope : List ℕ → ℕ → ℕ → Scope
 scope n e s = record { nodes = n; expressions = e; slots = s }
 
 -- one unit of work
-abbrev pub step : Metered Told Meter (Unit {0})
-step = stopping (λ e. told (Limit e)) (inner.work 1)
+abbrev pub unit : Metered Told Meter (Unit {0})
+unit = stopping (λ e. told (Limit e)) (inner.work 1)
 
--- a step before each of a list
+-- a unit before each of a list
 unfoldable pub each : {A : Type 0} → (A → Metered Told Meter (Unit {0})) → List A → Metered Told Meter (Unit {0})
 each f [] = pure tt
-each f (a ∷ l) = step >> f a >> each f l
+each f (a ∷ l) = unit >> f a >> each f l
 
 abbrev pub slot_in : ℕ → ℕ → Metered Told Meter (Unit {0})
 slot_in slots s = unless (λ _. ltb s slots) MissingSlot (pure tt)
@@ -59,7 +59,7 @@ check_node check slots (Unknown i w) = pure tt
 -- `depth` bounds the descent; children have smaller ids, so that one more than the id is enough
 unfoldable pub check_in : ℕ → Scope → ℕ → Metered Told Meter (Unit {0})
 check_in zero s id = pure tt
-check_in (suc depth) s id = step >> unless (λ _. ltb id s.expressions) Missing (check_node (check_in depth s) s.slots (expression_at s.nodes id))
+check_in (suc depth) s id = unit >> unless (λ _. ltb id s.expressions) Missing (check_node (check_in depth s) s.slots (expression_at s.nodes id))
 
 unfoldable pub check_expression : Scope → ℕ → Metered Told Meter (Unit {0})
 check_expression s id = check_in (suc id) s id
@@ -87,7 +87,7 @@ abbrev pub in_store : {A : Type 0} → Metered Told Store A → Metered Told Rec
 in_store = zoom (λ t. t.header) (λ s t. records s t.table)
 
 unfoldable pub check_value : Scope → ℕ → Metered Told Meter (Unit {0})
-check_value s id = step >> check_expression s id
+check_value s id = unit >> check_expression s id
 
 unfoldable pub check_head : Scope → Head → Metered Told Records (Unit {0})
 check_head s h = in_store (checking (check_value s h.value)) >> provenance h.argument
@@ -117,8 +117,8 @@ abbrev pub shapely : Rule → Bool
 shapely r =
     leb r.slots size.slots && (leb r.lengths.bindings size.bindings && (leb r.lengths.guards size.guards && (leb r.lengths.heads size.heads && eqb r.lengths.queries 0)))
 
-abbrev pub sizes : ℕ → ℕ → ℕ → Bool
-sizes nodes rules records = eqb nodes size.node_cells && (eqb rules size.rule_cells && eqb records size.record_cells)
+abbrev pub sized : ℕ → ℕ → ℕ → Bool
+sized nodes rules records = eqb nodes size.node_cells && (eqb rules size.rule_cells && eqb records size.record_cells)
 
 -- refusal 2; more rows than the tables have meet it as well
 abbrev pub spacious : Store → Bool
@@ -148,8 +148,8 @@ check_rule nodes r t =
 
 unfoldable pub rule_call : List ℕ → Rule → Metered Told Tables ℕ
 rule_call nodes r =
-    unless (λ t. sizes (length nodes) (length t.rules) (length t.records)) Shape
+    unless (λ t. sized (length nodes) (length t.rules) (length t.records)) Shape
     (unless (λ t. shapely r) Shape
     (unless (λ t. open? t.header) Closed
     (unless (λ t. spacious t.header) Full
-    (in_header (charged (cost r)) >> in_records (check_rule nodes r) >> add_rule r))))
+    (in_header (billing (cost r)) >> in_records (check_rule nodes r) >> add_rule r))))

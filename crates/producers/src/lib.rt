@@ -7,9 +7,9 @@ ghost use Rattle.sizes.specs.Sizes as size;
 ghost use Rattle.limits.specs.declared.Meter.{Meter};
 ghost use Rattle.limits.specs.Metered.{Metered};
 ghost use Rattle.limits.specs.Refusal.{Told, replied};
-ghost use Rattle.store.specs.Calls.{charged};
+ghost use Rattle.store.specs.Calls.{billing};
 ghost use Rattle.provenance.specs.Provenance.{records, Room};
-ghost use Rattle.producers.specs.Producer.{Scope, each, slot_in, check_expression, check_pair, check_body, check_value, check_head, check_heads, check_rule, shapely, sizes, spacious, cost, tables, rule_call};
+ghost use Rattle.producers.specs.Producer.{Scope, each, slot_in, check_expression, check_pair, check_body, check_value, check_head, check_heads, check_rule, shapely, sized, spacious, cost, tables, rule_call};
 ghost use Rattle.producers.specs.Scopes.{scope_in};
 
 use limits::{Meter, Refusal, Resource};
@@ -188,7 +188,7 @@ fn is_shapely(rule: &Rule) -> bool
 
 // The tables' sizes.
 fn is_sized(nodes: usize, rules: usize, records: usize) -> bool
-    ensures { result ≡ sizes nodes rules records }
+    ensures { result ≡ sized nodes rules records }
 {
     nodes == sizes::NODE_CELLS && rules == sizes::RULE_CELLS && records == sizes::RECORD_CELLS
 }
@@ -206,7 +206,7 @@ fn has_room(store: &Store) -> bool
 // What a rule charges before it is looked at: a unit of work, and all its links at once.
 fn charge_rule(store: &mut Store, rule: &Rule) -> Result<(), Refusal>
     requires { shapely rule.now ≡ true }
-    ensures { replied result store.new ≡ charged (cost rule.now) store.old }
+    ensures { replied result store.new ≡ billing (cost rule.now) store.old }
 {
     let lengths = rule.lengths;
     store.pay(Resource::Work, 1)?;

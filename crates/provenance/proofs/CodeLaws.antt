@@ -17,11 +17,11 @@ use Rattle.limits.specs.Refusal.{Told, told}
 use Rattle.limits.specs.Metered.{Run, going, stopped, pure, after, ◌>>=◌, ◌>>◌, mapped, through}
 use Rattle.limits.specs.Budget.{links}
 use Rattle.limits.proofs.Monad.{then_on, then_stop, through_on, through_stop}
-use Rattle.store.specs.Store.{Context}
+use Rattle.limits.specs.Context.{Context}
 use Rattle.std.proofs.Common.{None, Some}
 use Rattle.store.specs.declared.Store.{Store}
 use Rattle.store.specs.Store.{with_budget, with_provenance}
-use Rattle.store.specs.Calls.{charged}
+use Rattle.store.specs.Calls.{billing}
 use Rattle.provenance.specs.Provenance.{Records, records, paying, add_record, record_in, provenance, Room}
 
 -- ---- room
@@ -45,16 +45,16 @@ unfolding provenance pure
 provenance_none a s t h e = rw (lt-ltb a s.counts.positions h, e)
 
 module _ (a : ℕ) (s : Store) (t : List ℕ) (h : a < s.counts.positions) {c : ℕ} (e : s.context ≡ Some c) where
-  pub provenance_unpaid : (x : Refusal) {u : Store} → stopped (told x) u ≡ charged (links 1) s → stopped (told x) (records u t) ≡ provenance a (records s t)
+  pub provenance_unpaid : (x : Refusal) {u : Store} → stopped (told x) u ≡ billing (links 1) s → stopped (told x) (records u t) ≡ provenance a (records s t)
   unfolding provenance
-  provenance_unpaid x p = rw (lt-ltb a s.counts.positions h) (in_force a (records s t) e (then_stop _ (records s t) _ (through_stop _ _ _ _ (charged (links 1)) (records s t) p)))
+  provenance_unpaid x p = rw (lt-ltb a s.counts.positions h) (in_force a (records s t) e (then_stop _ (records s t) _ (through_stop _ _ _ _ (billing (links 1)) (records s t) p)))
 
-  pub provenance_new : {u : Store} {t' : List ℕ} → going tt u ≡ charged (links 1) s → t' ≡ sets t (2 * u.counts.provenance) (a ∷ c ∷ []) →
+  pub provenance_new : {u : Store} {t' : List ℕ} → going tt u ≡ billing (links 1) s → t' ≡ sets t (2 * u.counts.provenance) (a ∷ c ∷ []) →
       going tt (records (with_provenance (u.counts.provenance + 1) u) t') ≡ provenance a (records s t)
   unfolding provenance
   provenance_new p i =
       rw (lt-ltb a s.counts.positions h)
-      (in_force a (records s t) e (then_on _ (records s t) _ (through_on _ _ _ _ (charged (links 1)) (records s t) p) (rw i)))
+      (in_force a (records s t) e (then_on _ (records s t) _ (through_on _ _ _ _ (billing (links 1)) (records s t) p) (rw i)))
 
 -- ---- for callers
 

@@ -8,10 +8,10 @@ use lib.Seq.{sets}
 use Rattle.limits.specs.declared.Budget.{Budget}
 use Rattle.limits.specs.Budget.{links}
 use Rattle.limits.proofs.Ends.{Ends, completes, stops, ends_pure, ends_test, ends_then, ends_through}
-use Rattle.store.specs.Store.{Context}
+use Rattle.limits.specs.Context.{Context}
 use Rattle.std.proofs.Common.{None, Some}
 use Rattle.store.specs.Store.{with_budget, with_provenance}
-use Rattle.store.specs.Calls.{charged}
+use Rattle.store.specs.Calls.{billing}
 use Rattle.store.proofs.Frame.{Spent, spent_more, Charging, charging_none, charged_left, spends_links}
 use Rattle.provenance.specs.Provenance.{Records, records, paying, add_record, record_in, provenance}
 
@@ -50,7 +50,7 @@ provenance_left a r = ends_test (ltb a r.header.counts.positions) (λ _. go r.he
     go None = ends_pure tt r (recording_fewer (omega arith) (recording_none (charging_none r.header)))
     go (Some c) =
         ends_then {P = λ _ r'. Unrecorded r r'} (paying (links 1)) (add_record a c) r
-        (ends_through (λ t. t.header) (λ t s. records s t.table) (λ t s. records s t.table) (λ e. e) (charged (links 1)) r (charged_left (spends_links 1) r.header)
+        (ends_through (λ t. t.header) (λ t s. records s t.table) (λ t s. records s t.table) (λ e. e) (billing (links 1)) r (charged_left (spends_links 1) r.header)
         (λ _ s h. (h, refl)) (λ _ s h. (h, refl)))
         (λ _ t h. completes (new t c h))
         (λ _ t h. h)

@@ -8,11 +8,11 @@ use Rattle.limits.specs.declared.Refusal.TheVariants.{Missing}
 use Rattle.limits.specs.Refusal.{Told}
 use Rattle.limits.specs.Metered.{going, Metered, pure, ◌>>◌, zoom}
 use Rattle.limits.specs.Budget.{links}
-use Rattle.store.specs.Store.{Context}
+use Rattle.limits.specs.Context.{Context}
 use Rattle.std.specs.Prelude.{None, Some}
 use Rattle.store.specs.declared.Store.{Store}
 use Rattle.store.specs.Store.{with_provenance}
-use Rattle.store.specs.Calls.{unless, charged}
+use Rattle.store.specs.Calls.{unless, billing}
 
 pub record Records : Type 0 where
   pub header : Store
@@ -22,7 +22,7 @@ abbrev pub records : Store → List ℕ → Records
 records s t = record { header = s; table = t }
 
 abbrev pub paying : {A : Type 0} → Metered Stop Budget A → Metered Told Records A
-paying m = zoom (λ t. t.header) (λ s t. records s t.table) (charged m)
+paying m = zoom (λ t. t.header) (λ s t. records s t.table) (billing m)
 
 -- a record's two cells: the argument and the context
 abbrev pub add_record : ℕ → ℕ → Metered Told Records (Unit {0})

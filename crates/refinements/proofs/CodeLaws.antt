@@ -34,7 +34,7 @@ use Rattle.lattice.specs.Answers.{answered_value}
 use Rattle.rows.specs.Row.{case_cell, low_cell, high_cell, interval_of, entries_of}
 use Rattle.rows.proofs.RowLaws.{numeric_none}
 use Rattle.sizes.specs.Sizes.{refinement_row}
-use Rattle.refinements.specs.Refinement.{Refinement, refinement_at, refinements_of, put_refinement, integer?, narrow, restrict, place, position, notes, note}
+use Rattle.refinements.specs.Refinement.{Refinement, refinement_at, refinements_of, put_refinement, integer?, narrow, restrict, place_or_end, position, notes, note}
 use Rattle.refinements.specs.Refinement as refinements
 
 -- ---- a row
@@ -77,7 +77,7 @@ module _ (constants : List ℕ) (i : Interval) (v : Value) (m : Meter) {t : Bool
   pub narrow_no : t ≡ false → going v m ≡ narrow constants i v m
   narrow_no p = no_on _ _ m (sym ask ∙ p) (pure_is v m)
 
--- ---- the place of the first
+-- ---- the place_or_end of the first
 
 module _ (g : ℕ → Refinement) (id count : ℕ) (m : Meter) where
   abbrev pub Seeking : ℕ → Meter → Type 0

@@ -51,15 +51,15 @@ restrict constants (r ∷ rs) id v = holding (entries_of v) (work 1) >> cond (eq
 
 -- ---- the middle of `refine_operand`: a restriction is recorded, or meets the one that is
 
--- the place of the first refinement of an expression, or the end; k have been looked at
+-- the place_or_end of the first refinement of an expression, or the end; k have been looked at
 unfoldable pub position : ℕ → List Refinement → ℕ → Metered Stop Meter ℕ
 position k [] id = pure k
 position k (r ∷ rs) id = work 1 >> cond (eqb r.expression id) (pure k) (position (k + 1) rs id)
 
 -- where a search that finds nothing stands at the end
-abbrev pub place : ℕ → Option ℕ → ℕ
-place n None = n
-place n (Some k) = k
+abbrev pub place_or_end : ℕ → Option ℕ → ℕ
+place_or_end n None = n
+place_or_end n (Some k) = k
 
 pub record Notes : Type 0 where
   pub meter : Meter
@@ -68,7 +68,7 @@ pub record Notes : Type 0 where
 abbrev pub notes : Meter → List ℕ → Notes
 notes m t = record { meter = m; table = t }
 
--- at place k of n: how many there are then, and the table
+-- at place_or_end k of n: how many there are then, and the table
 abbrev pub noted : ℕ → ℕ → Interval → ℕ → Metered Stop Notes ℕ
 noted n id i k s =
     cond (ltb k n) (going n (notes s.meter (put_refinement s.table k id (meet_of (refinement_at s.table k).restriction i))))

@@ -4,12 +4,11 @@
 
 ghost use Rattle.std.specs.Prelude.{ℕ, List, ◌≡◌, ◌<◌, min, ◌*◌, IfOk, IfSome};
 ghost use Rattle.sizes.specs.Sizes as size;
-ghost use Rattle.limits.specs.Metered.{answered};
-ghost use Rattle.lists.specs.Ids.{seen};
+ghost use Rattle.limits.specs.Metered.{answered, seen};
 ghost use Rattle.lattice.specs.Value.{value_of};
 ghost use Rattle.lattice.specs.Lattice.{numeric};
 ghost use Rattle.lattice.specs.Answers.{answered_value};
-ghost use Rattle.refinements.specs.Refinement.{refinement_at, refinements_of, put_refinement, integer?, narrow, restrict, place, position, notes, note};
+ghost use Rattle.refinements.specs.Refinement.{refinement_at, refinements_of, put_refinement, integer?, narrow, restrict, place_or_end, position, notes, note};
 
 use cells::{cell_at, of_cell, put_cell};
 use interval::{Integrality, Interval};
@@ -87,7 +86,7 @@ pub fn position(
     id: u64,
     meter: &mut Meter,
 ) -> Result<Option<usize>, Stop>
-    ensures place { seen (place count) result meter.new ≡ position 0 (refinements_of refinements.now count) id meter.old }
+    ensures place { seen (place_or_end count) result meter.new ≡ position 0 (refinements_of refinements.now count) id meter.old }
     ensures within { IfOk result (λ p. IfSome p (λ k. k < count)) }
 {
     for k in 0..count {

@@ -79,12 +79,12 @@ abbrev pub lined : Reading ℕ → List ℕ → Lined
 lined a b = record { answer = a; buffer = b }
 
 -- the line stands at the start, and the answer is its length; a refused one changes nothing
-abbrev pub put : List ℕ → Reading (List ℕ) → Lined
-put buffer (given text) = lined (given (length text)) (sets buffer 0 text)
-put buffer (refused e) = lined (refused e) buffer
+abbrev pub put_line : List ℕ → Reading (List ℕ) → Lined
+put_line buffer (given text) = lined (given (length text)) (sets buffer 0 text)
+put_line buffer (refused e) = lined (refused e) buffer
 
 abbrev pub on_buffer : List ℕ → Reading (List ℕ) → Lined
-on_buffer buffer r = cond (eqb (length buffer) 256) (put buffer r) (lined (refused (told Shape)) buffer)
+on_buffer buffer r = cond (eqb (length buffer) 256) (put_line buffer r) (lined (refused (told Shape)) buffer)
 
 -- the code's answer
 abbrev pub written : Result ℕ Refusal → List ℕ → Lined

@@ -13,9 +13,9 @@ use Rattle.limits.specs.Meter as inner
 use Rattle.limits.proofs.Onward.{Onward, onward_begins, onward_ends, then_stops, then_goes}
 use Rattle.interval.specs.declared.Bound.{Bound}
 use Rattle.rows.specs.Row.{bound_cells, value_at}
-use Rattle.slots.specs.Slots.{Slots, slots, step}
+use Rattle.slots.specs.Slots.{Slots, slots, after_unit}
 use Rattle.slots.proofs.CodeLaws.{step_stop, step_goes}
-use Rattle.results.specs.Result.{put_bound, keeping, keep}
+use Rattle.results.specs.Result.{put_bound, keeping, keep_bounds}
 
 -- ---- the cells of a bound
 
@@ -36,26 +36,26 @@ module _ (cells : List ℕ) (id slot : ℕ) (after : Bool) (b : Bound) where
 
 module _ (rows : List ℕ) (id : ℕ) (after : Bool) (count : ℕ) (s : Slots) where
   abbrev pub Keeping : ℕ → Slots → Type 0
-  Keeping k t = Onward (keep rows id after 0 count) s (keep rows id after k (count - k)) t
+  Keeping k t = Onward (keep_bounds rows id after 0 count) s (keep_bounds rows id after k (count - k)) t
 
   pub keep_begun : Keeping 0 s
-  keep_begun = let e : count ≡ count - 0 = omega arith in onward_begins s (ap (keep rows id after 0) e)
+  keep_begun = let e : count ≡ count - 0 = omega arith in onward_begins s (ap (keep_bounds rows id after 0) e)
 
   module _ {k : ℕ} {t : Meter} {now : List ℕ} (h : Keeping k (slots t now)) where
-    pub kept : count ≤ k → going tt (slots t now) ≡ keep rows id after 0 count s
-    unfolding keep
-    kept l = let e : count - k ≡ 0 = omega arith in onward_ends h (ap (keep rows id after k) e)
+    pub kept : count ≤ k → going tt (slots t now) ≡ keep_bounds rows id after 0 count s
+    unfolding keep_bounds
+    kept l = let e : count - k ≡ 0 = omega arith in onward_ends h (ap (keep_bounds rows id after k) e)
 
     module _ (l : k < count) where
       abbrev one : Metered Stop Slots (Unit {0})
       one = keeping id k after (value_at rows k).bound
 
-      keep_next : keep rows id after k (count - k) ≡ (step one >> keep rows id after (k + 1) (count - (k + 1)))
-      unfolding keep
-      keep_next = let e : count - k ≡ suc (count - (k + 1)) = omega arith in ap (keep rows id after k) e
+      keep_next : keep_bounds rows id after k (count - k) ≡ (after_unit one >> keep_bounds rows id after (k + 1) (count - (k + 1)))
+      unfolding keep_bounds
+      keep_next = let e : count - k ≡ suc (count - (k + 1)) = omega arith in ap (keep_bounds rows id after k) e
 
-      pub keep_stopped : {e : Stop} {u : Meter} → stopped e u ≡ inner.work 1 t → stopped e (slots u now) ≡ keep rows id after 0 count s
-      keep_stopped w = then_stops h (step one) _ keep_next (step_stop one t now w)
+      pub keep_stopped : {e : Stop} {u : Meter} → stopped e u ≡ inner.work 1 t → stopped e (slots u now) ≡ keep_bounds rows id after 0 count s
+      keep_stopped w = then_stops h (after_unit one) _ keep_next (step_stop one t now w)
 
       pub keep_more : {u : Meter} {b : Bound} {now' : List ℕ} → going tt u ≡ inner.work 1 t → b ≡ (value_at rows k).bound → now' ≡ put_bound now id k after b → Keeping (k + 1) (slots u now')
-      keep_more w p q = then_goes h (step one) _ keep_next (step_goes one t now w (rw (q, p)))
+      keep_more w p q = then_goes h (after_unit one) _ keep_next (step_goes one t now w (rw (q, p)))

@@ -9,18 +9,18 @@ use Rattle.limits.specs.declared.Resource.TheVariants.{Work}
 use Rattle.limits.specs.Budget.{work, released}
 use Rattle.limits.proofs.Ends.{Ends, completes, ends_then, ends_through, ends_as, on_bind, on_then}
 use Rattle.interval.specs.declared.Bound.{Bound}
-use Rattle.rows.specs.Row.{value_at}
+use Rattle.rows.specs.Row.{value_at, moved}
 use Rattle.rules.specs.Read.{slots_at}
 use Rattle.slots.specs.Slots.{total}
 use Rattle.slots.proofs.Live.{Formed}
 use Rattle.evaluation.specs.Evaluation.{Input}
 use Rattle.rounds.specs.declared.Course.{Course}
-use Rattle.rounds.specs.Round.{Given, Standing, standing, charging, each_rule, course, candidates, moved}
+use Rattle.rounds.specs.Round.{Given, Standing, standing, charging, each_rule, course, candidates}
 use Rattle.limits.proofs.Charging.{charge_ends}
 use Rattle.rounds.proofs.Brings.{Brings, brings_pure, brings_then, brings_step, brings_locals, Stands, rules_keep}
-use Rattle.rounds.proofs.Moved.{length_moved, moved_row, moved_formed, moved_total}
+use Rattle.slots.proofs.Moved.{length_moved, moved_row, moved_formed, moved_total}
 use Rattle.rounds.proofs.Live.{Fit, Legible, local_live, Room}
-use Rattle.results.specs.Result.{keeping, keep, keep_both, bound, close, taking, last_round, Ending, ending, closing, last}
+use Rattle.results.specs.Result.{keeping, keep_bounds, keep_both, bound, close, taking, last_round, Ending, ending, closing, last}
 
 -- ---- the bounds of the rules' slots: a table without entries
 
@@ -33,8 +33,8 @@ Any rows = Unit {0}
 keeping_brings : (id slot : ℕ) (after : Bool) (b : Bound) → Brings nothing Any Any (keeping id slot after b)
 keeping_brings id slot after b = record { at = λ e s h p. completes (h, tt) }
 
-keep_brings : (rows : List ℕ) (id : ℕ) (after : Bool) (k n : ℕ) → Brings nothing Any Any (keep rows id after k n)
-unfolding keep
+keep_brings : (rows : List ℕ) (id : ℕ) (after : Bool) (k n : ℕ) → Brings nothing Any Any (keep_bounds rows id after k n)
+unfolding keep_bounds
 keep_brings rows id after k zero = brings_pure
 keep_brings rows id after k (suc n) = brings_then (brings_step (keeping_brings id k after (value_at rows k).bound)) (keep_brings rows id after (k + 1) n)
 

@@ -8,19 +8,19 @@ use Rattle.limits.specs.Budget.{work}
 use Rattle.limits.proofs.Monad.{steady_unit}
 use Rattle.limits.proofs.Alike.{SteadyOn, on_pure, on_look, on_bind, on_then, on_through, steady_on}
 use Rattle.interval.specs.declared.Bound.{Bound}
-use Rattle.rows.specs.Row.{value_at}
+use Rattle.rows.specs.Row.{value_at, moved}
 use Rattle.rules.specs.Read.{slots_at}
 use Rattle.slots.proofs.Steady.{OnRows, on_step}
 use Rattle.evaluation.specs.Evaluation.{Input}
-use Rattle.rounds.specs.Round.{Given, candidates, moved}
+use Rattle.rounds.specs.Round.{Given, candidates}
 use Rattle.rounds.proofs.Steady.{on_locals, OnTable, on_rules, candidates_steady}
-use Rattle.results.specs.Result.{put_bound, keeping, keep, keep_both, bound, close, in_course, taking, last_round, Ending, in_bounds, closing, last}
+use Rattle.results.specs.Result.{put_bound, keeping, keep_bounds, keep_both, bound, close, in_course, taking, last_round, Ending, in_bounds, closing, last}
 
 on_keeping : (id slot : ℕ) (after : Bool) (b : Bound) → OnRows (keeping id slot after b)
 on_keeping id slot after b = record { same = λ s t e. (refl, ap (λ (l : List ℕ). put_bound l id slot after b) e) }
 
-on_keep : (rows : List ℕ) (id : ℕ) (after : Bool) (k n : ℕ) → OnRows (keep rows id after k n)
-unfolding keep
+on_keep : (rows : List ℕ) (id : ℕ) (after : Bool) (k n : ℕ) → OnRows (keep_bounds rows id after k n)
+unfolding keep_bounds
 on_keep rows id after k zero = on_pure tt
 on_keep rows id after k (suc n) = on_then (on_step (on_keeping id k after (value_at rows k).bound)) (on_keep rows id after (k + 1) n)
 

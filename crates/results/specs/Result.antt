@@ -7,36 +7,36 @@ use Rattle.limits.specs.declared.Budget.{Budget}
 use Rattle.limits.specs.Metered.{going, Metered, pure, ◌>>=◌, ◌>>◌, zoom}
 use Rattle.limits.specs.Budget.{work, released}
 use Rattle.interval.specs.declared.Bound.{Bound}
-use Rattle.rows.specs.Row.{bound_cells, value_at}
-use Rattle.store.specs.Store.{Context}
+use Rattle.rows.specs.Row.{bound_cells, value_at, moved}
+use Rattle.limits.specs.Context.{Context}
 use Rattle.rules.specs.Read.{slots_at}
-use Rattle.slots.specs.Slots.{Slots, slots, total, step}
+use Rattle.slots.specs.Slots.{Slots, slots, total, after_unit}
 use Rattle.evaluation.specs.Evaluation.{Input}
 use Rattle.rounds.specs.Locals.{with_locals}
 use Rattle.rounds.specs.declared.Course.{Course}
-use Rattle.rounds.specs.Round.{Given, Standing, standing, charging, each_rule, course, candidates, moved}
+use Rattle.rounds.specs.Round.{Given, Standing, standing, charging, each_rule, course, candidates}
 
 -- ---- the bounds of the rules' slots: two for each slot of each rule
 
 -- where a slot's bound stands: before guards, or after them
-abbrev pub place : ℕ → ℕ → Bool → ℕ
-place id slot after = size.bounds_row * id + size.slot_row * slot + cond after size.bound_row 0
+abbrev pub bound_place : ℕ → ℕ → Bool → ℕ
+bound_place id slot after = size.bounds_row * id + size.slot_row * slot + cond after size.bound_row 0
 
--- a rule or a slot that the table has no place for is not written
+-- a rule or a slot that the table has no bound_place for is not written
 unfoldable pub put_bound : List ℕ → ℕ → ℕ → Bool → Bound → List ℕ
-put_bound cells id slot after b = cond (ltb id size.rules && ltb slot size.slots) (sets cells (place id slot after) (bound_cells b)) cells
+put_bound cells id slot after b = cond (ltb id size.rules && ltb slot size.slots) (sets cells (bound_place id slot after) (bound_cells b)) cells
 
 abbrev pub keeping : ℕ → ℕ → Bool → Bound → Metered Stop Slots (Unit {0})
 keeping id slot after b s = going tt (slots s.meter (put_bound s.rows id slot after b))
 
 -- n slots from k on, a unit of work before each
-unfoldable pub keep : List ℕ → ℕ → Bool → ℕ → ℕ → Metered Stop Slots (Unit {0})
-keep rows id after k zero = pure tt
-keep rows id after k (suc n) = step (keeping id k after (value_at rows k).bound) >> keep rows id after (k + 1) n
+unfoldable pub keep_bounds : List ℕ → ℕ → Bool → ℕ → ℕ → Metered Stop Slots (Unit {0})
+keep_bounds rows id after k zero = pure tt
+keep_bounds rows id after k (suc n) = after_unit (keeping id k after (value_at rows k).bound) >> keep_bounds rows id after (k + 1) n
 
 -- all before guards, then all after them
 unfoldable pub keep_both : List ℕ → List ℕ → ℕ → ℕ → Metered Stop Slots (Unit {0})
-keep_both domains produced n id = keep domains id false 0 n >> keep produced id true 0 n
+keep_both domains produced n id = keep_bounds domains id false 0 n >> keep_bounds produced id true 0 n
 
 -- one rule
 unfoldable pub bound : Input → List ℕ → List ℕ → ℕ → Metered Stop Slots (Unit {0})
@@ -51,7 +51,7 @@ close i rules count positions current = each_rule rules (bound i rules current) 
 abbrev pub in_course : {A : Type 0} → Metered Stop Course A → Metered Stop Standing A
 in_course = zoom (λ s. course s.budget s.context) (λ c s. standing c.budget c.context s.rows)
 
--- new values take the place of the current ones, which are dropped
+-- new values take the bound_place of the current ones, which are dropped
 abbrev pub taking : ℕ → List ℕ → Metered Stop Standing (Unit {0})
 taking n new s = going tt (standing (released (total s.rows n) s.budget) s.context (moved new n s.rows))
 

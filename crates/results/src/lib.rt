@@ -8,7 +8,7 @@ ghost use Rattle.slots.specs.Slots.{slots};
 ghost use Rattle.rounds.specs.Round.{standing};
 ghost use Rattle.rounds.specs.Lent.{given_in};
 ghost use Rattle.evaluation.specs.Operands.{input_in};
-ghost use Rattle.results.specs.Result.{put_bound, keep, keep_both, close, ending, last_round, last};
+ghost use Rattle.results.specs.Result.{put_bound, keep_bounds, keep_both, close, ending, last_round, last};
 
 use interval::Bound;
 use limits::{Meter, Resource, Stop};
@@ -31,7 +31,7 @@ fn put_bound(cells: &mut [u32], id: usize, slot: usize, after: bool, bound: Boun
 }
 
 // The bounds of a rule's slots, a unit of work before each.
-fn keep(
+fn keep_bounds(
     values: &[u32],
     count: usize,
     bounds: &mut [u32],
@@ -39,7 +39,7 @@ fn keep(
     after: bool,
     meter: &mut Meter,
 ) -> Result<(), Stop>
-    ensures { answered result (slots meter.new bounds.new) ≡ keep values.now id after 0 count (slots meter.old bounds.old) }
+    ensures { answered result (slots meter.new bounds.new) ≡ keep_bounds values.now id after 0 count (slots meter.old bounds.old) }
 {
     for slot in 0..count {
         meter.work(1)?;
@@ -58,8 +58,8 @@ fn keep_both(
 ) -> Result<(), Stop>
     ensures { answered result (slots meter.new bounds.new) ≡ keep_both locals.now.domains.now locals.now.produced.now count id (slots meter.old bounds.old) }
 {
-    keep(locals.domains, count, bounds, id, false, meter)?;
-    keep(locals.produced, count, bounds, id, true, meter)
+    keep_bounds(locals.domains, count, bounds, id, false, meter)?;
+    keep_bounds(locals.produced, count, bounds, id, true, meter)
 }
 
 // The task of the result: the bounds of a rule's slots.
@@ -103,8 +103,8 @@ fn last_round(given: &Given, current: &mut [u32], course: &mut Course) -> Result
 {
     let mut result = [0u32; sizes::ARGUMENT_CELLS];
     rounds::image(given, current, &mut result, course)?;
-    rounds::without_rows(current, given.positions, &mut course.budget);
-    rounds::move_rows(&result, current, given.positions);
+    slots::without_rows(current, given.positions, &mut course.budget);
+    rows::move_rows(&result, current, given.positions);
     Ok(())
 }
 

@@ -1,4 +1,4 @@
--- What a step does to a table while entries are counted: beside any others, e, those of the table (`size`) are live before it and after it,
+-- What a after_unit does to a table while entries are counted: beside any others, e, those of the table (`size`) are live before it and after it,
 -- whichever way it ends, and where it completes it brings F of the table to G. Live entries and what a round gives are both shown with it.
 use Prim.Native.Nat.{ℕ, zero, suc, ◌+◌, ◌*◌, ◌≤◌, ◌<◌}
 use native.Mathlib.Omega.{arith}
@@ -19,11 +19,11 @@ use Rattle.sizes.specs.Sizes.{value_row}
 use Rattle.rows.specs.Row.{entries_of, value_at, put}
 use Rattle.rows.specs.WellFormed.{WellFormed}
 use Rattle.rules.specs.Read.{context_at, slots_at}
-use Rattle.slots.specs.Slots.{Slots, slots, fewer, total, settled, replace, dropping, step, each}
+use Rattle.slots.specs.Slots.{Slots, slots, fewer, total, settled, replace, dropping, after_unit, each}
 use Rattle.slots.proofs.Live.{total_put, total_part}
 use Rattle.evaluation.specs.Evaluation.{Input}
-use Rattle.rounds.specs.Locals.{Locals, local, without, with_locals}
-use Rattle.rounds.specs.Round.{Standing, standing, in_table, entering, each_rule}
+use Rattle.rounds.specs.Locals.{Locals, own_locals, drop_locals, with_locals}
+use Rattle.rounds.specs.Round.{Standing, standing, in_table, set_context, each_rule}
 
 pub record Brings (size : List ℕ → ℕ) (F G : List ℕ → Type 0) (m : Metered Stop Slots (Unit {0})) : Type 0 where
   pub at : (e : ℕ) (s : Slots) → s.meter.entries ≡ e + size s.rows → F s.rows →
@@ -40,7 +40,7 @@ module _ {size : List ℕ → ℕ} where
   brings_as J K f g h = record { at = λ e s p q. ends_as (h.at e s p (f s.rows q)) (λ _ t z. (z.0, g t.rows z.1)) (λ _ t z. z) }
 
   -- a unit of work first
-  pub brings_step : {F G : List ℕ → Type 0} {m : Metered Stop Slots (Unit {0})} → Brings size F G m → Brings size F G (step m)
+  pub brings_step : {F G : List ℕ → Type 0} {m : Metered Stop Slots (Unit {0})} → Brings size F G m → Brings size F G (after_unit m)
   brings_step {m = m} h = record {
     at = λ e s p q.
         on_then (λ t. t.meter) (λ t n. slots n t.rows) (λ t n. slots n t.rows) (λ x. x) (work 1) m s (live_ends (live_work 1) (any_value (work 1)) s.meter)
@@ -98,20 +98,20 @@ abbrev pub held : ℕ → Locals → ℕ
 held n l = total l.domains n + total l.produced n
 
 module _ (i : Input) (rules : List ℕ) (id : ℕ) (arguments : List ℕ) (L : Locals → Type 0)
-    (made : (m : Meter) → Ends (λ l n. (n.entries ≡ m.entries + held (slots_at rules id) l) × L l) (λ _ n. n.entries ≡ m.entries) (local i rules id arguments m)) where
+    (made : (m : Meter) → Ends (λ l n. (n.entries ≡ m.entries + held (slots_at rules id) l) × L l) (λ _ n. n.entries ≡ m.entries) (own_locals i rules id arguments m)) where
   pub brings_locals : {size : List ℕ → ℕ} {F G : List ℕ → Type 0} {m : Locals → Metered Stop Slots (Unit {0})} → ((l : Locals) → L l → Brings size F G (m l)) → Brings size F G (with_locals i rules id arguments m)
   unfolding with_locals
   brings_locals {size} {F} {G} {m} h = record {
     at = λ e s p q.
-        on_bind (λ t. t.meter) (λ t n. slots n t.rows) (λ t n. slots n t.rows) (λ x. x) (local i rules id arguments) (λ l. finally (without (slots_at rules id) l.domains l.produced) (m l)) s (made s.meter)
+        on_bind (λ t. t.meter) (λ t n. slots n t.rows) (λ t n. slots n t.rows) (λ x. x) (own_locals i rules id arguments) (λ l. finally (drop_locals (slots_at rules id) l.domains l.produced) (m l)) s (made s.meter)
         (λ l n z. dropped e l (h l z.1) (slots n s.rows) (omega (arith, z.0)) q)
         (λ _ n z. omega arith);
   }
     where
       dropped : (e : ℕ) (l : Locals) → Brings size F G (m l) → (s : Slots) → s.meter.entries ≡ e + held (slots_at rules id) l + size s.rows → F s.rows →
-          Ends (λ _ t. (t.meter.entries ≡ e + size t.rows) × G t.rows) (λ _ t. t.meter.entries ≡ e + size t.rows) (finally (without (slots_at rules id) l.domains l.produced) (m l) s)
+          Ends (λ _ t. (t.meter.entries ≡ e + size t.rows) × G t.rows) (λ _ t. t.meter.entries ≡ e + size t.rows) (finally (drop_locals (slots_at rules id) l.domains l.produced) (m l) s)
       dropped e l b s p q =
-          ends_through (λ t. t) (λ _ t. without (slots_at rules id) l.domains l.produced t) (λ _ t. without (slots_at rules id) l.domains l.produced t) (λ x. x)
+          ends_through (λ t. t) (λ _ t. drop_locals (slots_at rules id) l.domains l.produced t) (λ _ t. drop_locals (slots_at rules id) l.domains l.produced t) (λ x. x)
           {P = λ _ t. (t.meter.entries ≡ e + held (slots_at rules id) l + size t.rows) × G t.rows} {Q = λ _ t. t.meter.entries ≡ e + held (slots_at rules id) l + size t.rows}
           (m l) s (b.at (e + held (slots_at rules id) l) s p q) (λ _ t z. (omega (arith, z.0), z.1)) (λ _ t z. omega arith)
 
@@ -127,7 +127,7 @@ module _ (rules : List ℕ) (f : ℕ → Metered Stop Slots (Unit {0})) (size : 
       (s : Standing) → Stands size e s → F s.rows → Ends (λ _ t. Stands size e t × H t.rows) (λ _ t. Stands size e t) (each_rule rules f k (suc n) s)
   unfolding each_rule
   first F G H e k n h more s p q =
-      ends_then {P = λ _ t. Stands size e t × F t.rows} {Q = λ _ t. Stands size e t} (entering (context_at rules k)) (in_table (f k) >> each_rule rules f (k + 1) n) s (completes (p, q))
+      ends_then {P = λ _ t. Stands size e t × F t.rows} {Q = λ _ t. Stands size e t} (set_context (context_at rules k)) (in_table (f k) >> each_rule rules f (k + 1) n) s (completes (p, q))
       (λ _ t z.
       on_then (λ u. slots (meter_of u.budget) u.rows) (λ u v. standing (with_meter v.meter u.budget) u.context v.rows) (λ u v. standing (with_meter v.meter u.budget) u.context v.rows) (λ x. x)
       (f k) (each_rule rules f (k + 1) n) t (h.at e (slots (meter_of t.budget) t.rows) z.0 z.1) (λ _ u r. more (standing (with_meter u.meter t.budget) t.context u.rows) r.0 r.1) (λ _ u r. r))

@@ -12,10 +12,10 @@ use Rattle.limits.specs.Meter.{meter_of, with_meter}
 use Rattle.limits.proofs.Answering.{went, broke, answered_through}
 use Rattle.limits.proofs.Onward.{Onward, onward_begins, onward_ends, then_stops, then_goes}
 use Rattle.rules.specs.Read.{context_at}
-use Rattle.store.specs.Store.{Context}
+use Rattle.limits.specs.Context.{Context}
 use Rattle.slots.specs.Slots.{Slots, slots}
-use Rattle.rounds.specs.Round.{Standing, standing, in_table, entering, each_rule}
-use Rattle.rounds.specs.Lent.{in_budget}
+use Rattle.rounds.specs.Round.{Standing, standing, in_table, set_context, each_rule}
+use Rattle.slots.specs.Lent.{in_budget}
 
 -- ---- a table in a budget, in a state that has both among other things
 
@@ -54,13 +54,13 @@ module _ (rules : List ℕ) (f : ℕ → Metered Stop Slots (Unit {0})) (count :
       abbrev onward : Metered Stop Standing (Unit {0})
       onward = in_table (f k) >> each_rule rules f (k + 1) (count - (k + 1))
 
-      rules_next : each_rule rules f k (count - k) ≡ (entering (context_at rules k) >> onward)
+      rules_next : each_rule rules f k (count - k) ≡ (set_context (context_at rules k) >> onward)
       unfolding each_rule
       rules_next = let e : count - k ≡ suc (count - (k + 1)) = omega arith in ap (each_rule rules f k) e
 
       module _ {force : Context} (q : force ≡ context_at rules k) where
         entered : Onward (each_rule rules f 0 count) s onward (standing b force rows)
-        entered = then_goes h (entering (context_at rules k)) onward rules_next (rw q)
+        entered = then_goes h (set_context (context_at rules k)) onward rules_next (rw q)
 
         module _ (r : Result (Unit {0}) Stop) (m : Meter) {paid : Meter} {left : Budget} (rows' : List ℕ) (o : paid ≡ meter_of b) (p : answered r (slots m rows') ≡ f k (slots paid rows)) (d : left ≡ with_meter m b) where
           one : answered r (standing left force rows') ≡ in_table (f k) (standing b force rows)

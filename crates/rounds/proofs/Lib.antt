@@ -1,8 +1,6 @@
 pub mod CodeLaws
 pub mod Brings
 pub mod Joined
-pub mod Moved
-pub mod Copied
 pub mod Pays
 pub mod Live
 pub mod Steady

@@ -30,10 +30,10 @@ use Rattle.evaluation.specs.Evaluation.{Input}
 use Rattle.guards.proofs.Live.{GuardIn}
 use Rattle.transfer.specs.Transfer.{Frame, frame, rule}
 use Rattle.transfer.proofs.Live.{Filled, Lent, rule_ends, head_good}
-use Rattle.rounds.specs.Locals.{Locals, locals, fill, blank, locals_of, local}
+use Rattle.rounds.specs.Locals.{Locals, locals, fill, blank_frame, locals_of, own_locals}
 use Rattle.rounds.specs.declared.Course.{Course}
 use Rattle.rounds.specs.Round.{Given, Standing, standing, holding_rows, each_rule, join_head, apply, produce, image, course, candidates_of, candidates}
-use Rattle.rounds.specs.Round.{blank as table}
+use Rattle.rounds.specs.Round.{blank_frame as table}
 use Rattle.limits.proofs.Charging.{charge_ends}
 use Rattle.rounds.proofs.Brings.{Brings, rows_of, held, brings_each, brings_locals, Stands, rules_keep}
 use Rattle.rounds.proofs.Joined.{brings_head}
@@ -67,7 +67,7 @@ blank_formed n i =
     let e = no_list n i in
     record { formed = value_formed (replicate n 0) i (small_zero n); tidy = record { sorted = rw e tt; small = rw e tt } }
 
-lent : (n : ℕ) (m : Meter) → n ≤ 16 → Lent n (blank m)
+lent : (n : ℕ) (m : Meter) → n ≤ 16 → Lent n (blank_frame m)
 lent n m h = record {
   before = rw (length-replicate {A = ℕ} (value_row * 16) 0) (omega arith);
   after = rw (length-replicate {A = ℕ} (value_row * 16) 0) (omega arith);
@@ -94,9 +94,9 @@ module _ (i : Input) (small : All (λ c. c < 2 ^ 32) i.constants) {n : ℕ} {rul
       record { before = h.before; after = h.after; domains = h.domains; produced = h.produced; refinements = h.refinements } (omega (arith, z.1)))
       (λ _ m z. omega arith)
 
-  pub local_live : (m : Meter) → Ends (λ l k. (k.entries ≡ m.entries + held (slots_at rules id) l) × Legible l) (λ _ k. k.entries ≡ m.entries) (local i rules id arguments m)
-  unfolding local
-  local_live m = go (fill_live m.entries (blank m) (lent (slots_at rules id) m (few_slots rules id)) refl)
+  pub local_live : (m : Meter) → Ends (λ l k. (k.entries ≡ m.entries + held (slots_at rules id) l) × Legible l) (λ _ k. k.entries ≡ m.entries) (own_locals i rules id arguments m)
+  unfolding own_locals
+  local_live m = go (fill_live m.entries (blank_frame m) (lent (slots_at rules id) m (few_slots rules id)) refl)
     where
       go : {x : Run Stop Frame ℕ} → Ends (λ _ t. Filled (slots_at rules id) m.entries t) (λ _ t. t.meter.entries ≡ m.entries) x →
           Ends (λ l k. (k.entries ≡ m.entries + held (slots_at rules id) l) × Legible l) (λ _ k. k.entries ≡ m.entries) (locals_of x)

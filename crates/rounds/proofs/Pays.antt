@@ -11,11 +11,11 @@ use Rattle.limits.specs.declared.Meter.{Meter}
 use Rattle.limits.specs.Meter.{meter_of, with_meter}
 use Rattle.limits.proofs.ChargeLaws.{Charges, accepted, refused, charge_does}
 use Rattle.limits.proofs.Ends.{Ends, completes, stops, ends_pure, ends_as, ends_then, ends_through, on_then, in_some_way}
-use Rattle.store.specs.Store.{Context}
+use Rattle.limits.specs.Context.{Context}
 use Rattle.rules.specs.Read.{context_at}
 use Rattle.slots.specs.Slots.{Slots, slots, total, copies}
 use Rattle.rounds.specs.declared.Course.{Course}
-use Rattle.rounds.specs.Round.{Given, Standing, standing, in_table, holding_rows, entering, each_rule, apply, produce, image, blank, candidates_of, candidates}
+use Rattle.rounds.specs.Round.{Given, Standing, standing, in_table, holding_rows, set_context, each_rule, apply, produce, image, blank, candidates_of, candidates}
 
 -- ---- of budgets
 
@@ -63,7 +63,7 @@ on_keeps : {A : Type 0} {b c : Budget} {x : Run Stop Standing A} → Kept b c �
 on_keeps h k = ends_as k (λ a u i. kept_then h i) (λ e u i. kept_then h i)
 
 module _ (s : Standing) where
-  enter_keeps : (c : Context) → Ends (Stays s.budget) (Stays s.budget) (entering c s)
+  enter_keeps : (c : Context) → Ends (Stays s.budget) (Stays s.budget) (set_context c s)
   enter_keeps c = completes (kept_same s.budget)
 
   table_keeps : {A : Type 0} (m : Metered Stop Slots A) → Ends (Stays s.budget) (Stays s.budget) (in_table m s)
@@ -75,7 +75,7 @@ rules_keep : (rules : List ℕ) (f : ℕ → Metered Stop Slots (Unit {0})) (k n
 unfolding each_rule
 rules_keep rules f k zero s = ends_pure tt s (kept_same s.budget)
 rules_keep rules f k (suc n) s =
-    ends_then (entering (context_at rules k)) (in_table (f k) >> each_rule rules f (k + 1) n) s (enter_keeps s (context_at rules k))
+    ends_then (set_context (context_at rules k)) (in_table (f k) >> each_rule rules f (k + 1) n) s (enter_keeps s (context_at rules k))
     (λ a t h. ends_then (in_table (f k)) (each_rule rules f (k + 1) n) t (on_keeps h (table_keeps t (f k))) (λ b u i. on_keeps i (rules_keep rules f (k + 1) n u)) (λ e u i. i))
     (λ e t h. h)
 

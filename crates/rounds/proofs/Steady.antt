@@ -17,9 +17,9 @@ use Rattle.slots.proofs.Steady.{OnRows, on_paying, on_dropping, on_replace, on_e
 use Rattle.evaluation.specs.Evaluation.{Input}
 use Rattle.transfer.specs.Transfer.{Frame}
 use Rattle.transfer.proofs.Steady.{tables, on_rule, head_steady}
-use Rattle.rounds.specs.Locals.{Locals, fill, blank, locals_of, local, with_locals}
+use Rattle.rounds.specs.Locals.{Locals, fill, blank_frame, locals_of, own_locals, with_locals}
 use Rattle.rounds.specs.declared.Course.{Course}
-use Rattle.rounds.specs.Round.{Given, Standing, entering, in_table, each_rule, join_owned, join_head, apply, produce, image, candidates_of, candidates}
+use Rattle.rounds.specs.Round.{Given, Standing, set_context, in_table, each_rule, join_owned, join_head, apply, produce, image, candidates_of, candidates}
 use Rattle.rounds.specs.Round as rounds
 
 -- ---- a rule's slots
@@ -34,9 +34,9 @@ module _ (i : Input) (rules : List ℕ) (id : ℕ) (arguments : List ℕ) where
   agree_locals (going n s) (stopped e t) h = tt
   agree_locals (stopped e s) y h = tt
 
-  pub local_steady : Steady (local i rules id arguments)
-  unfolding local
-  local_steady = record { same = λ s t. agree_locals (fill i rules id arguments (blank s)) (fill i rules id arguments (blank t)) (on_fill.same (blank s) (blank t) refl) }
+  pub local_steady : Steady (own_locals i rules id arguments)
+  unfolding own_locals
+  local_steady = record { same = λ s t. agree_locals (fill i rules id arguments (blank_frame s)) (fill i rules id arguments (blank_frame t)) (on_fill.same (blank_frame s) (blank_frame t) refl) }
 
   pub on_locals : {m : Locals → Metered Stop Slots (Unit {0})} → ((l : Locals) → OnRows (m l)) → OnRows (with_locals i rules id arguments m)
   unfolding with_locals
@@ -67,7 +67,7 @@ on_table_lem h = on_through _ _ _ _ (λ s t e. e) (λ s t u v _ e. e) h
 pub on_rules : (rules : List ℕ) (f : ℕ → Metered Stop Slots (Unit {0})) → ((id : ℕ) → OnRows (f id)) → (k n : ℕ) → OnTable (each_rule rules f k n)
 unfolding each_rule
 on_rules rules f h k zero = on_pure tt
-on_rules rules f h k (suc n) = on_then {m = entering (context_at rules k)} record { same = λ s t e. (refl, e) } (on_then (on_table_lem (h k)) (on_rules rules f h (k + 1) n))
+on_rules rules f h k (suc n) = on_then {m = set_context (context_at rules k)} record { same = λ s t e. (refl, e) } (on_then (on_table_lem (h k)) (on_rules rules f h (k + 1) n))
 
 pub on_produce : (g : Given) (previous : List ℕ) → OnTable (produce g previous)
 unfolding produce

@@ -22,7 +22,3 @@ locals_in l = locals l.domains.now l.produced.now l.refinements.now l.recorded
 -- what a round does with a rule's slots
 abbrev pub joining : Joining → Given → ℕ → Locals → Metered Stop Slots (Unit {0})
 joining t g id l = each (join_head g.input l.produced l.refinements l.recorded) (heads_at g.rules id)
-
--- m with the counts of a budget
-abbrev pub in_budget : {A : Type 0} → Metered Stop Slots A → Metered Stop (Budget × List ℕ) A
-in_budget = zoom (λ s. slots (meter_of s.0) s.1) (λ t s. (with_meter t.meter s.0, t.rows))

@@ -23,21 +23,21 @@ locals d p r n = record { domains = d; produced = p; refinements = r; recorded =
 unfoldable pub fill : Input → List ℕ → ℕ → List ℕ → Metered Stop Frame ℕ
 fill i rules id arguments = zoom (λ s. s.meter) (λ m s. frame m s.domains s.produced s.refinements) (work 1) >> rule i rules id arguments
 
--- in blank tables
-abbrev pub blank : Meter → Frame
-blank m = frame m (replicate size.slot_cells 0) (replicate size.slot_cells 0) (replicate size.refinement_cells 0)
+-- in blank_frame tables
+abbrev pub blank_frame : Meter → Frame
+blank_frame m = frame m (replicate size.slot_cells 0) (replicate size.slot_cells 0) (replicate size.refinement_cells 0)
 
 abbrev pub locals_of : Run Stop Frame ℕ → Run Stop Meter Locals
 locals_of (going n f) = going (locals f.domains f.produced f.refinements n) f.meter
 locals_of (stopped e f) = stopped e f.meter
 
-unfoldable pub local : Input → List ℕ → ℕ → List ℕ → Metered Stop Meter Locals
-local i rules id arguments m = locals_of (fill i rules id arguments (blank m))
+unfoldable pub own_locals : Input → List ℕ → ℕ → List ℕ → Metered Stop Meter Locals
+own_locals i rules id arguments m = locals_of (fill i rules id arguments (blank_frame m))
 
 -- the first n rows of both tables are dropped
-abbrev pub without : ℕ → List ℕ → List ℕ → Slots → Slots
-without n domains produced s = fewer (total domains n) (fewer (total produced n) s)
+abbrev pub drop_locals : ℕ → List ℕ → List ℕ → Slots → Slots
+drop_locals n domains produced s = fewer (total domains n) (fewer (total produced n) s)
 
 -- what m does with a rule's slots, which are dropped whichever way m ends
 unfoldable pub with_locals : Input → List ℕ → ℕ → List ℕ → (Locals → Metered Stop Slots (Unit {0})) → Metered Stop Slots (Unit {0})
-with_locals i rules id arguments m = paying (local i rules id arguments) >>= (λ l. finally (without (slots_at rules id) l.domains l.produced) (m l))
+with_locals i rules id arguments m = paying (own_locals i rules id arguments) >>= (λ l. finally (drop_locals (slots_at rules id) l.domains l.produced) (m l))

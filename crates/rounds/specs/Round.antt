@@ -9,7 +9,7 @@ use Rattle.limits.specs.Meter.{meter_of, with_meter}
 use Rattle.lattice.specs.Value.{Value}
 use Rattle.lattice.specs.Lattice.{join}
 use Rattle.rows.specs.Row.{value_at, put}
-use Rattle.store.specs.Store.{Context}
+use Rattle.limits.specs.Context.{Context}
 use Rattle.rules.specs.declared.Head.{Head}
 use Rattle.rules.specs.Read.{context_at, heads_at}
 use Rattle.slots.specs.Slots.{Slots, slots, total, paying, dropping, replace, each, copies}
@@ -51,13 +51,13 @@ holding_rows n m = on_stop (λ s. standing (released (total s.rows n) s.budget) 
 -- ---- rules
 
 -- `input.context = producer.context`
-abbrev pub entering : Context → Metered Stop Standing (Unit {0})
-entering c s = going tt (standing s.budget c s.rows)
+abbrev pub set_context : Context → Metered Stop Standing (Unit {0})
+set_context c s = going tt (standing s.budget c s.rows)
 
 -- what f does with each rule, n of them from k on; a rule's context is in force from before its first charge
 unfoldable pub each_rule : List ℕ → (ℕ → Metered Stop Slots (Unit {0})) → ℕ → ℕ → Metered Stop Standing (Unit {0})
 each_rule rules f k zero = pure tt
-each_rule rules f k (suc n) = entering (context_at rules k) >> in_table (f k) >> each_rule rules f (k + 1) n
+each_rule rules f k (suc n) = set_context (context_at rules k) >> in_table (f k) >> each_rule rules f (k + 1) n
 
 -- ---- heads
 
@@ -99,8 +99,3 @@ candidates_of (stopped e s) = stopped e (course s.budget s.context)
 -- what a round makes of given values
 unfoldable pub candidates : Given → List ℕ → Metered Stop Course (List ℕ)
 candidates g previous c = candidates_of (image g previous (standing c.budget c.context blank))
-
--- the first n rows of a table stand in another
-unfoldable pub moved : List ℕ → ℕ → List ℕ → List ℕ
-moved from zero to = to
-moved from (suc n) to = put (moved from n to) n (value_at from n)

@@ -6,16 +6,14 @@ ghost use Rattle.std.specs.Prelude.{ℕ, ◌≡◌};
 ghost use Rattle.sizes.specs.Sizes as size;
 ghost use Rattle.limits.specs.declared.Stop.{Stop};
 ghost use Rattle.limits.specs.Metered.{Metered, answered};
-ghost use Rattle.limits.specs.Budget.{released};
 ghost use Rattle.lattice.specs.Value.{value_of};
-ghost use Rattle.rules.specs.Read.{heads_at};
-ghost use Rattle.slots.specs.Slots.{Slots, slots, total, replace, step, each, copies};
+ghost use Rattle.slots.specs.Slots.{Slots, slots, replace, after_unit, each};
 ghost use Rattle.lattice.specs.Lattice.{join};
 ghost use Rattle.evaluation.specs.Operands.{input_in};
 ghost use Rattle.transfer.specs.Transfer.{frame};
 ghost use Rattle.rounds.specs.Locals.{Locals, fill, with_locals};
-ghost use Rattle.rounds.specs.Round.{Given, standing, join_owned, join_head, each_rule, produce, image, moved};
-ghost use Rattle.rounds.specs.Lent.{given_in, locals_in, joining, in_budget};
+ghost use Rattle.rounds.specs.Round.{Given, standing, join_owned, join_head, each_rule, produce, image};
+ghost use Rattle.rounds.specs.Lent.{given_in, locals_in, joining};
 
 use evaluation::Input;
 use lattice::Abstract;
@@ -186,7 +184,7 @@ fn join_head(
     head: Head,
     meter: &mut Meter,
 ) -> Result<(), Stop>
-    ensures { answered result (slots meter.new res.new) ≡ step (join_head (input_in input.now) locals.now.produced.now locals.now.refinements.now locals.now.recorded head) (slots meter.old res.old) }
+    ensures { answered result (slots meter.new res.new) ≡ after_unit (join_head (input_in input.now) locals.now.produced.now locals.now.refinements.now locals.now.recorded head) (slots meter.old res.old) }
 {
     meter.work(1)?;
     let value = transfer::head(
@@ -225,34 +223,6 @@ impl Task for Joining {
     }
 }
 
-// The values of the first `count` rows are dropped.
-pub fn without_rows(cells: &[u32], count: usize, budget: &mut Budget)
-    ensures { budget.new ≡ released (total cells.now count) budget.old }
-{
-    let mut meter = budget.meter();
-    slots::drop_rows(cells, count, &mut meter);
-    budget.settle(meter);
-}
-
-// Copies of the first `count` rows, in a budget.
-pub fn copy_in(from: &[u32], to: &mut [u32], count: usize, budget: &mut Budget) -> Result<(), Stop>
-    ensures { answered result (budget.new, to.new) ≡ in_budget (copies from.now 0 count) (budget.old, to.old) }
-{
-    let mut meter = budget.meter();
-    let copied = slots::copy_rows(from, to, count, &mut meter);
-    budget.settle(meter);
-    copied
-}
-
-// The first `count` rows of a table stand in another. Nothing is charged. Each is read and written anew, as cells that are no value's would be.
-pub fn move_rows(from: &[u32], to: &mut [u32], count: usize)
-    ensures { to.new ≡ moved from.now count to.old }
-{
-    for i in 0..count {
-        rows::put_abstract(to, i, rows::abstract_at(from, i));
-    }
-}
-
 // The rules' heads, joined into a copy of the seeds.
 fn produce(
     given: &Given,
@@ -262,10 +232,10 @@ fn produce(
 ) -> Result<(), Stop>
     ensures { answered result (standing course.new.budget course.new.context res.new) ≡ produce (given_in given.now) previous.now (standing course.old.budget course.old.context res.old) }
 {
-    copy_in(given.seeds, res, given.positions, &mut course.budget)?;
+    slots::copy_in(given.seeds, res, given.positions, &mut course.budget)?;
     let joined = each_rule(&Joining, given, previous, res, course);
     if joined.is_err() {
-        without_rows(res, given.positions, &mut course.budget);
+        slots::without_rows(res, given.positions, &mut course.budget);
     }
     joined
 }

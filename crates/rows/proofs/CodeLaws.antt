@@ -17,17 +17,16 @@ use Rattle.interval.specs.declared.Bound.{Bound}
 use Rattle.std.proofs.Common.{Result, Ok, Err}
 use Rattle.limits.specs.declared.Stop.{Stop}
 use Rattle.limits.specs.declared.Meter.{Meter}
-use Rattle.limits.specs.Metered.{going, answered}
+use Rattle.limits.specs.Metered.{going, answered, seen}
 use Rattle.limits.specs.Meter.{work}
 use Rattle.lists.specs.Lists.{retain_all}
-use Rattle.lists.specs.Ids.{seen}
 use Rattle.lattice.specs.Lattice.{copied}
 use Rattle.lattice.proofs.CodeLaws.{list_copied, entries_stopped}
 use Rattle.lattice.specs.Value.{Reason}
 use Rattle.lattice.specs.declared.Abstract.{Abstract}
 use Rattle.lattice.specs.Value.{Value, value_of, reason_number}
 use Rattle.sizes.specs.Sizes.{value_row}
-use Rattle.rows.specs.Row.{padded, bound_of, integrality_cell, case_cell, low_cell, high_cell, bound_cells, kept_cell, listed?, list_of, entries_of, encode, reason_of, id_of, ids_of, decode, value_at, put}
+use Rattle.rows.specs.Row.{padded, bound_of, integrality_cell, case_cell, low_cell, high_cell, bound_cells, kept_cell, listed?, list_of, entries_of, encode, reason_of, id_of, row_ids, decode, value_at, put}
 use Rattle.rows.proofs.RowLaws.{length_padded, get_or_padded, row_cell}
 
 -- ---- the bound
@@ -58,10 +57,10 @@ kept_is v e = e ∙ go v.kept
 -- ---- the ids
 
 pub ids_read : (cells : List ℕ) (at : ℕ) {ids : List ℕ} {j : ℕ} → Filled 0 (λ k. id_of (get_or cells (at + 7 + k) 0)) ids j → length ids ≡ 16 → 16 ≤ j →
-    ids ≡ ids_of (padded value_row (drop at cells))
+    ids ≡ row_ids (padded value_row (drop at cells))
 ids_read cells at {ids} {j} p n h =
-    let l : length (ids_of (padded value_row (drop at cells))) ≡ 16 = simp (length-map, length-take, length-drop, length_padded) in
-    filled_all p (ids_of (padded value_row (drop at cells))) (n ∙ sym l) (omega arith)
+    let l : length (row_ids (padded value_row (drop at cells))) ≡ 16 = simp (length-map, length-take, length-drop, length_padded) in
+    filled_all p (row_ids (padded value_row (drop at cells))) (n ∙ sym l) (omega arith)
     (λ k g.
     let e : at + (7 + k) ≡ at + 7 + k = omega arith in
     get_or-map id_of (take 16 (drop 7 (padded value_row (drop at cells)))) k 0
@@ -93,13 +92,13 @@ module _ (cells : List ℕ) (i at : ℕ) (start : at ≡ min (value_row * i) (le
   first = rw add-zero at (cell 0 (omega arith))
 
   pub row_read : {b : Bound} {a₄ a₅ a₆ : ℕ} {w : Reason} {ids : List ℕ} →
-      b ≡ bound_of cells at → a₄ ≡ get_or cells (at + 4) 0 → a₅ ≡ get_or cells (at + 5) 0 → a₆ ≡ get_or cells (at + 6) 0 → w ≡ reason_of a₆ → ids ≡ ids_of (padded value_row (drop at cells)) →
+      b ≡ bound_of cells at → a₄ ≡ get_or cells (at + 4) 0 → a₅ ≡ get_or cells (at + 5) 0 → a₆ ≡ get_or cells (at + 6) 0 → w ≡ reason_of a₆ → ids ≡ row_ids (padded value_row (drop at cells)) →
       value_of (record { bound = b; ids = ids; len = a₅; kept = not (eqb a₄ 0); reason = w }) ≡ value_at cells i
   unfolding value_at decode
   row_read eb e₄ e₅ e₆ ew ei =
       rw (← the_row, eb, ew, ei, first, cell 1 (omega arith), cell 2 (omega arith), cell 3 (omega arith))
       (rw (e₄, cell 4 (omega arith), e₅, cell 5 (omega arith), e₆, cell 6 (omega arith))
-      (rw (kept_list (eqb (get_or (padded value_row (drop at cells)) 4 0) 0) (get_or (padded value_row (drop at cells)) 5 0) (ids_of (padded value_row (drop at cells))))))
+      (rw (kept_list (eqb (get_or (padded value_row (drop at cells)) 4 0) 0) (get_or (padded value_row (drop at cells)) 5 0) (row_ids (padded value_row (drop at cells))))))
 
   -- without a list the ids mean nothing
   pub row_bare : (ids : List ℕ) {b : Bound} {a₄ a₅ a₆ : ℕ} {w : Reason} →
@@ -108,7 +107,7 @@ module _ (cells : List ℕ) (i at : ℕ) (start : at ≡ min (value_row * i) (le
   row_bare ids {b} {a₄} {a₅} {w} eb e₄ e₅ e₆ ew bare = same (not (eqb a₄ 0)) bare ∙ row_read eb e₄ e₅ e₆ ew refl
     where
       same : (k : Bool) → k ≡ false →
-          value_of (record { bound = b; ids = ids; len = a₅; kept = k; reason = w }) ≡ value_of (record { bound = b; ids = ids_of (padded value_row (drop at cells)); len = a₅; kept = k; reason = w })
+          value_of (record { bound = b; ids = ids; len = a₅; kept = k; reason = w }) ≡ value_of (record { bound = b; ids = row_ids (padded value_row (drop at cells)); len = a₅; kept = k; reason = w })
       same k e = rw e refl
 
   -- the stores of the bound, of three cells and of the ids, as one
@@ -131,7 +130,7 @@ module _ (cells : List ℕ) (i at : ℕ) (start : at ≡ min (value_row * i) (le
 
   -- its list, as the row has it
   row_entries : {a₄ a₅ : ℕ} → a₄ ≡ get_or cells (at + 4) 0 → a₅ ≡ get_or cells (at + 5) 0 →
-      length (list_of (cond (eqb a₄ 0) none (some (take a₅ (ids_of (padded value_row (drop at cells))))))) ≡ entries_of (value_at cells i)
+      length (list_of (cond (eqb a₄ 0) none (some (take a₅ (row_ids (padded value_row (drop at cells))))))) ≡ entries_of (value_at cells i)
   unfolding value_at decode
   row_entries e₄ e₅ = rw (← the_row, e₄, cell 4 (omega arith), e₅, cell 5 (omega arith))
 
@@ -140,8 +139,8 @@ module _ (cells : List ℕ) (i at : ℕ) (start : at ≡ min (value_row * i) (le
 
   pub entries_some : {a₄ a₅ n : ℕ} → a₄ ≡ get_or cells (at + 4) 0 → a₅ ≡ get_or cells (at + 5) 0 → (a₄ ≡ 0 → ⊥) → n ≡ min a₅ 16 → n ≡ entries_of (value_at cells i)
   entries_some {a₄} {a₅} e₄ e₅ z m =
-      let l : length (ids_of (padded value_row (drop at cells))) ≡ 16 = simp (length-map, length-take, length-drop, length_padded) in
-      m ∙ sym (length-take a₅ (ids_of (padded value_row (drop at cells))) ∙ ap (min a₅) l) ∙ (rw (ne_eqb a₄ 0 z) at (row_entries e₄ e₅))
+      let l : length (row_ids (padded value_row (drop at cells))) ≡ 16 = simp (length-map, length-take, length-drop, length_padded) in
+      m ∙ sym (length-take a₅ (row_ids (padded value_row (drop at cells))) ∙ ap (min a₅) l) ∙ (rw (ne_eqb a₄ 0 z) at (row_entries e₄ e₅))
 
   -- ---- a row in parts
 
@@ -149,14 +148,14 @@ module _ (cells : List ℕ) (i at : ℕ) (start : at ≡ min (value_row * i) (le
   bound_read e = e ∙ ap (λ (v : Value). v.bound) (row_read refl refl refl refl refl refl)
 
   row_values : {a₄ : ℕ} → a₄ ≡ get_or cells (at + 4) 0 →
-      (value_at cells i).values ≡ cond (eqb a₄ 0) none (some (take (get_or cells (at + 5) 0) (ids_of (padded value_row (drop at cells)))))
+      (value_at cells i).values ≡ cond (eqb a₄ 0) none (some (take (get_or cells (at + 5) 0) (row_ids (padded value_row (drop at cells)))))
   unfolding value_at decode
   row_values e₄ = rw (← the_row, e₄, cell 4 (omega arith), cell 5 (omega arith))
 
   pub listed_read : {a₄ : ℕ} → a₄ ≡ get_or cells (at + 4) 0 → not (eqb a₄ 0) ≡ listed? (value_at cells i).values
   listed_read {a₄} e₄ = go (eqb a₄ 0) ∙ ap listed? (sym (row_values e₄))
     where
-      go : (t : Bool) → not t ≡ listed? (cond t none (some (take (get_or cells (at + 5) 0) (ids_of (padded value_row (drop at cells))))))
+      go : (t : Bool) → not t ≡ listed? (cond t none (some (take (get_or cells (at + 5) 0) (row_ids (padded value_row (drop at cells))))))
       go true = refl
       go false = refl
 

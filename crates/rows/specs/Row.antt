@@ -82,8 +82,8 @@ abbrev pub id_of : ℕ → ℕ
 id_of n = n % 2 ^ 16
 
 -- the 16 ids; a longer list reads as all of them
-abbrev pub ids_of : List ℕ → List ℕ
-ids_of r = map id_of (take size.width (drop size.value_ids r))
+abbrev pub row_ids : List ℕ → List ℕ
+row_ids r = map id_of (take size.width (drop size.value_ids r))
 
 unfoldable pub decode : List ℕ → Value
 decode r = record {
@@ -91,7 +91,7 @@ decode r = record {
     integrality = integrality_of (get_or r 0 0);
     interval = interval_of (get_or r size.value_case 0) (of_cell (get_or r size.value_low 0)) (of_cell (get_or r size.value_high 0));
   };
-  values = cond (eqb (get_or r size.value_kept 0) 0) none (some (take (get_or r size.value_length 0) (ids_of r)));
+  values = cond (eqb (get_or r size.value_kept 0) 0) none (some (take (get_or r size.value_length 0) (row_ids r)));
   widening = reason_of (get_or r size.value_reason 0);
 }
 
@@ -114,3 +114,8 @@ bound_of cells at = record {
 unfoldable pub values_of : List ℕ → ℕ → List Value
 values_of cells zero = []
 values_of cells (suc n) = values_of cells n ++ (value_at cells n ∷ [])
+
+-- the first n rows of a table stand in another
+unfoldable pub moved : List ℕ → ℕ → List ℕ → List ℕ
+moved from zero to = to
+moved from (suc n) to = put (moved from n to) n (value_at from n)

@@ -6,10 +6,10 @@ ghost use Rattle.std.specs.Prelude.{◌≡◌, min, ◌+◌, ◌-◌, ◌*◌, �
 ghost use Rattle.std.proofs.lemmas.List.Edits.{sets};
 ghost use Rattle.sizes.specs.Sizes as size;
 ghost use Rattle.cells.specs.Cells.{of_cell};
-ghost use Rattle.lists.specs.Ids.{seen};
+ghost use Rattle.limits.specs.Metered.{seen};
 ghost use Rattle.lattice.specs.Value.{value_of};
 ghost use Rattle.lattice.specs.Lattice.{copied};
-ghost use Rattle.rows.specs.Row.{padded, integrality_cell, case_cell, low_cell, high_cell, bound_cells, bound_of, listed?, list_of, entries_of, integrality_of, interval_of, reason_of, ids_of, value_at, put};
+ghost use Rattle.rows.specs.Row.{padded, integrality_cell, case_cell, low_cell, high_cell, bound_cells, bound_of, listed?, list_of, entries_of, integrality_of, interval_of, reason_of, row_ids, value_at, put, moved};
 
 use cells::{cell_at, of_cell, put_cell, to_cell};
 use interval::{Bound, Integrality, Interval};
@@ -59,7 +59,7 @@ fn reason_of(cell: u32) -> Option<Widening>
 // The ids of the row that begins at `at`. `%` with a cast, since a cast alone must fit and no `From` cuts a number.
 fn ids_at(cells: &[u32], at: usize) -> [u16; sizes::WIDTH]
     requires { at ≤ length cells.now }
-    ensures { result ≡ ids_of (padded size.value_row (drop at cells.now)) }
+    ensures { result ≡ row_ids (padded size.value_row (drop at cells.now)) }
 {
     let mut ids = [0; sizes::WIDTH];
     for j in 0..sizes::WIDTH {
@@ -250,4 +250,13 @@ pub fn put_abstract(cells: &mut [u32], row: usize, value: Abstract)
         lattice::reason_number(value.reason),
     );
     put_ids(cells, at, ids);
+}
+
+// The first `count` rows of a table stand in another. Nothing is charged. Each is read and written anew, as cells that are no value's would be.
+pub fn move_rows(from: &[u32], to: &mut [u32], count: usize)
+    ensures { to.new ≡ moved from.now count to.old }
+{
+    for i in 0..count {
+        put_abstract(to, i, abstract_at(from, i));
+    }
 }

@@ -12,7 +12,7 @@ use Rattle.std.specs.Prelude.{None, Some}
 use lib.ListN.{length, get_or, drop, set, length-map, drop_of_length-le}
 use lib.Seq.{sets, drop-cons}
 use Rattle.integers.proofs.Stores.{get_or_min}
-use Rattle.store.specs.Store.{Context}
+use Rattle.limits.specs.Context.{Context}
 use Rattle.rules.specs.declared.Binding.{Binding}
 use Rattle.rules.specs.declared.Binding.TheVariants.{Positive, Assign, Range, Aggregate}
 use Rattle.rules.specs.declared.Guard.{Guard}

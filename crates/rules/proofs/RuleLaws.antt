@@ -9,7 +9,7 @@ use lib.Seq.{sets, length-sets, get_or-append-add}
 use Rattle.integers.specs.Lists.{All, from}
 use Rattle.integers.proofs.ListLaws.{Compared, less, more, same, compared, from_list}
 use Rattle.integers.proofs.Stores.{sets_before, sets_after, sets_in}
-use Rattle.store.specs.Store.{Context}
+use Rattle.limits.specs.Context.{Context}
 use Rattle.std.proofs.Common.{None, Some}
 use Rattle.rules.specs.declared.AggregateFunction.{AggregateFunction}
 use Rattle.rules.specs.declared.AggregateFunction.TheVariants.{Count, Sum, SumPlus, Min, Max}
@@ -22,7 +22,7 @@ use Rattle.rules.specs.declared.Guard.TheVariants.{Compare, Membership}
 use Rattle.rules.specs.declared.Head.{Head}
 use Rattle.rules.specs.declared.Rule.{Rule}
 use Rattle.sizes.specs.Sizes.{rule_row}
-use Rattle.rules.specs.Rule.{function_number, relation_number, binding_cells, guard_cells, head_cells, mark_of, number_of, fixed_cells, bindings_of, guards_of, heads_of, flat, cell, put_rule}
+use Rattle.rules.specs.Rule.{function_number, relation_number, binding_cells, guard_cells, head_cells, context_mark, context_number, fixed_cells, bindings_of, guards_of, heads_of, flat, cell, put_rule}
 use Rattle.rules.specs.Read.{function_of, relation_of, binding_of, guard_of, head_of, context_of, slots_at, context_at, binding_count, guard_count, head_count, binding_at, guard_at, head_at, bindings_at, guards_at, heads_at}
 use Rattle.rules.proofs.CodeLaws.{binding_width, guard_width, head_width}
 
@@ -94,7 +94,7 @@ guard_back (Membership slot low high) h = λ d. Membership (small_cell slot h.0 
 head_back : (h : Head) → SmallHead h → let l = head_cells h in head_of (cell (get_or l 0 0)) (cell (get_or l 1 0)) ≡ h
 head_back h s = λ d. head_of (small_cell h.argument s.0 d) (small_cell h.value s.1 d)
 
-context_back : (c : Context) → SmallContext c → context_of (cell (mark_of c)) (cell (number_of c)) ≡ c
+context_back : (c : Context) → SmallContext c → context_of (cell (context_mark c)) (cell (context_number c)) ≡ c
 context_back None h = refl
 context_back (Some c) h = ap Some (small_cell c h)
 

@@ -3,7 +3,7 @@
 use Rattle.std.specs.Prelude.{ℕ, min, ◌+◌, ◌*◌, cond, List, [], ◌∷◌, eqb, get_or}
 use Rattle.sizes.specs.Sizes as size
 use Rattle.integers.specs.Lists.{from}
-use Rattle.store.specs.Store.{Context}
+use Rattle.limits.specs.Context.{Context}
 use Rattle.std.specs.Prelude.{None, Some}
 use Rattle.rules.specs.declared.AggregateFunction.{AggregateFunction}
 use Rattle.rules.specs.declared.AggregateFunction.TheVariants.{Count, Sum, SumPlus, Min, Max}

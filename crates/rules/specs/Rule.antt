@@ -2,7 +2,7 @@
 use Rattle.std.specs.Prelude.{ℕ, ◌+◌, ◌*◌, ◌%◌, ◌^◌, List, [], ◌∷◌, ◌++◌, map, take}
 use Rattle.sizes.specs.Sizes as size
 use Rattle.std.proofs.lemmas.List.Edits.{sets}
-use Rattle.store.specs.Store.{Context}
+use Rattle.limits.specs.Context.{Context}
 use Rattle.std.specs.Prelude.{None, Some}
 use Rattle.rules.specs.declared.AggregateFunction.{AggregateFunction}
 use Rattle.rules.specs.declared.AggregateFunction.TheVariants.{Count, Sum, SumPlus, Min, Max}
@@ -58,13 +58,13 @@ abbrev pub head_cells : Head → List ℕ
 head_cells h = h.argument ∷ h.value ∷ []
 
 -- whether a context is in force, and which
-abbrev pub mark_of : Context → ℕ
-mark_of None = 0
-mark_of (Some c) = 1
+abbrev pub context_mark : Context → ℕ
+context_mark None = 0
+context_mark (Some c) = 1
 
-abbrev pub number_of : Context → ℕ
-number_of None = 0
-number_of (Some c) = c
+abbrev pub context_number : Context → ℕ
+context_number None = 0
+context_number (Some c) = c
 
 -- one after another
 unfoldable pub flat : {A : Type 0} → (A → List ℕ) → List A → List ℕ
@@ -78,7 +78,7 @@ cell n = n % 2 ^ 32
 -- ---- a table of rows
 
 abbrev pub fixed_cells : Rule → Context → List ℕ
-fixed_cells r c = r.slots ∷ mark_of c ∷ number_of c ∷ r.lengths.bindings ∷ r.lengths.guards ∷ r.lengths.heads ∷ []
+fixed_cells r c = r.slots ∷ context_mark c ∷ context_number c ∷ r.lengths.bindings ∷ r.lengths.guards ∷ r.lengths.heads ∷ []
 
 -- what stood behind the last binding, guard and head stays
 unfoldable pub put_rule : List ℕ → ℕ → Rule → Context → List ℕ

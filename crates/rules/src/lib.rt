@@ -6,9 +6,8 @@ ghost use Rattle.rules.specs.declared.Binding.TheVariants.{Positive, Assign, Ran
 ghost use Rattle.rules.specs.declared.Guard.TheVariants.{Compare, Membership};
 ghost use Rattle.std.proofs.lemmas.List.Edits.{sets};
 ghost use Rattle.sizes.specs.Sizes as size;
-ghost use Rattle.sizes.specs.Sizes.{rule_row};
 ghost use Rattle.rules.specs.Rule.{function_number, relation_number, binding_cells, guard_cells, head_cells, fixed_cells, flat, cell, put_rule};
-ghost use Rattle.rules.specs.Read.{function_of, relation_of, binding_of, guard_of, head_of, slots_at, context_at, binding_count, guard_count, head_count, binding_at, guard_at, head_at};
+ghost use Rattle.rules.specs.Read.{function_of, relation_of, binding_of, guard_of, slots_at, context_at, binding_count, guard_count, head_count, binding_at, guard_at, head_at};
 
 #[derive(Clone, Copy, Debug, PartialEq, Eq)]
 pub enum AggregateFunction {

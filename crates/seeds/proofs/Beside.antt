@@ -15,7 +15,7 @@ use Rattle.limits.proofs.Ends.{Ends, ends_through}
 use Rattle.store.specs.declared.Phase.{Phase}
 use Rattle.store.specs.declared.Store.{Store}
 use Rattle.store.specs.Store.{with_budget, empty}
-use Rattle.store.specs.Calls.{charged}
+use Rattle.store.specs.Calls.{billing}
 use Rattle.store.proofs.Frame.{Spent}
 use Rattle.seeds.proofs.Seeded.{Seeded, Live, Lost, seeded_none, live_none, lost_none, seeded_constants}
 
@@ -60,7 +60,7 @@ pub record Beside (records marks : ℕ) (s s' : Store) : Type 0 where
   pub context : s'.context ≡ s.context
   pub phase : s'.phase ≡ s.phase
   pub limits : s'.budget.limits ≡ s.budget.limits
-  -- what was charged for predicates, positions and rounds
+  -- what was billing for predicates, positions and rounds
   pub charged_predicates : s'.budget.statistics.predicates ≡ s.budget.statistics.predicates
   pub charged_positions : s'.budget.statistics.positions ≡ s.budget.statistics.positions
   pub charged_rounds : s'.budget.statistics.rounds ≡ s.budget.statistics.rounds
@@ -191,7 +191,7 @@ spent_bill h = record {
 
 -- a charge is refused with a number of its own, never with 1 or 2
 pub charged_ends : {A : Type 0} {P : A → Budget → Type 0} {Q : Stop → Budget → Type 0} (m : Metered Stop Budget A) (s : Store) → Ends P Q (m s.budget) →
-    Ends (λ a s'. (b : Budget) × P a b × (s' ≡ with_budget b s)) (λ e s'. (3 ≤ e.number) × (x : Stop) × (b : Budget) × Q x b × (s' ≡ with_budget b s)) (charged m s)
+    Ends (λ a s'. (b : Budget) × P a b × (s' ≡ with_budget b s)) (λ e s'. (3 ≤ e.number) × (x : Stop) × (b : Budget) × Q x b × (s' ≡ with_budget b s)) (billing m s)
 charged_ends {P} {Q} m s h =
     ends_through (λ t. t) (λ _ t. t) (λ _ t. t) (λ e. told (Limit e)) _ s
     (ends_through (λ t. t.budget) (λ t b. with_budget b t) (λ t b. with_budget b t) (λ e. e) {R = λ a s'. (b : Budget) × P a b × (s' ≡ with_budget b s)} {U = λ x s'. (b : Budget) × Q x b × (s' ≡ with_budget b s)} m s h

@@ -17,15 +17,15 @@ use Rattle.limits.specs.Refusal.{Told, told}
 use Rattle.limits.specs.Metered.{Run, going, stopped, Metered, ◌>>◌, mapped, through}
 use Rattle.limits.specs.Budget.{work}
 use Rattle.limits.proofs.Monad.{then_on, then_stop, through_on, through_stop}
-use Rattle.store.specs.Store.{Context}
+use Rattle.limits.specs.Context.{Context}
 use Rattle.std.proofs.Common.{None, Some}
 use Rattle.store.specs.declared.Store.{Store}
 use Rattle.store.specs.Store.{admits}
-use Rattle.store.specs.Calls.{unless, charged}
+use Rattle.store.specs.Calls.{unless, billing}
 use Rattle.store.proofs.CodeLaws.{charged_counts, charged_context}
 use Rattle.provenance.specs.Provenance.{Records, records, provenance, recordable, Room}
 use Rattle.provenance.proofs.CodeLaws.{provenance_thresholds}
-use Rattle.seeds.specs.Seed.{sizes, spacious, Tables, tables, in_header, in_records, in_rows, seed_constant, seed_value_call, seed_ends, IntervalTables, interval_tables, in_tables, in_ends, seed_interval_call}
+use Rattle.seeds.specs.Seed.{sized, spacious, Tables, tables, in_header, in_records, in_rows, seed_constant, seed_value_call, seed_ends, IntervalTables, interval_tables, in_tables, in_ends, seed_interval_call}
 
 -- ---- room
 
@@ -34,7 +34,7 @@ room_one None standing e = tt
 room_one (Some c) standing e = omega (arith, leb-true standing size.records_before_call e)
 
 -- what the test of the room gives the record that comes behind the charge
-pub room_left : (s : Store) {u : Store} → spacious s ≡ true → going tt u ≡ charged (work 1) s → (u.counts.positions ≤ 256) × Room 1 u.context u.counts.provenance
+pub room_left : (s : Store) {u : Store} → spacious s ≡ true → going tt u ≡ billing (work 1) s → (u.counts.positions ≤ 256) × Room 1 u.context u.counts.provenance
 room_left s {u} y h =
     let f : leb s.counts.positions 256 ≡ true = and_left (leb s.counts.positions 256) (recordable s.context s.counts.provenance) y in
     let g : recordable s.context s.counts.provenance ≡ true = and_right (leb s.counts.positions 256) (recordable s.context s.counts.provenance) y in
@@ -43,7 +43,7 @@ room_left s {u} y h =
     rw (n, c) (leb-true s.counts.positions 256 f, room_one s.context s.counts.provenance g)
 
 -- and the thresholds
-pub thresholds_left : (a : ℕ) (s : Store) (r : List ℕ) {u v : Store} {r' : List ℕ} → going tt u ≡ charged (work 1) s → going tt (records v r') ≡ provenance a (records u r) →
+pub thresholds_left : (a : ℕ) (s : Store) (r : List ℕ) {u v : Store} {r' : List ℕ} → going tt u ≡ billing (work 1) s → going tt (records v r') ≡ provenance a (records u r) →
     v.counts.thresholds ≡ s.counts.thresholds
 thresholds_left a s r {u} h w =
     let n : u.counts ≡ s.counts = charged_counts (work 1) s h in
@@ -54,23 +54,23 @@ thresholds_left a s r {u} h w =
 -- what the call does where the tests admit it
 abbrev value_steps : List ℕ → ℕ → ℕ → Metered Told Tables (Unit {0})
 value_steps constants a k =
-    in_header (charged (work 1)) >>
+    in_header (billing (work 1)) >>
     unless (λ t. ltb k t.header.counts.constants) Missing
     (in_records (provenance a) >> in_rows (seed_constant constants a k))
 
 module _ (constants : List ℕ) (a k : ℕ) (s : Store) (t r : List ℕ) where
-  pub value_open : {x : Run Told Tables (Unit {0})} → length constants ≡ size.constant_cells → sizes (length t) (length r) ≡ true → admits s.phase ≡ true → s.counts.constants ≤ 1024 → spacious s ≡ true →
+  pub value_open : {x : Run Told Tables (Unit {0})} → length constants ≡ size.constant_cells → sized (length t) (length r) ≡ true → admits s.phase ≡ true → s.counts.constants ≤ 1024 → spacious s ≡ true →
       x ≡ value_steps constants a k (tables s t r) → x ≡ seed_value_call constants a k (tables s t r)
   unfolding seed_value_call
   value_open n y g l e w = rw (eq-eqb (length constants) size.constant_cells n, y, g, le-leb s.counts.constants 1024 l, e) w
 
-  pub value_unpaid : {x : Told} {u : Store} → stopped x u ≡ charged (work 1) s → stopped x (tables u t r) ≡ value_steps constants a k (tables s t r)
-  value_unpaid e = then_stop _ (tables s t r) _ (through_stop (λ t. t.header) (λ t u. tables u t.seeds t.records) (λ t u. tables u t.seeds t.records) (λ e. e) (charged (work 1)) (tables s t r) e)
+  pub value_unpaid : {x : Told} {u : Store} → stopped x u ≡ billing (work 1) s → stopped x (tables u t r) ≡ value_steps constants a k (tables s t r)
+  value_unpaid e = then_stop _ (tables s t r) _ (through_stop (λ t. t.header) (λ t u. tables u t.seeds t.records) (λ t u. tables u t.seeds t.records) (λ e. e) (billing (work 1)) (tables s t r) e)
 
-  module _ {u : Store} (p : going tt u ≡ charged (work 1) s) where
+  module _ {u : Store} (p : going tt u ≡ billing (work 1) s) where
     then_paid : {x : Run Told Tables (Unit {0})} → x ≡ unless (λ t. ltb k t.header.counts.constants) Missing (in_records (provenance a) >> in_rows (seed_constant constants a k)) (tables u t r) →
         x ≡ value_steps constants a k (tables s t r)
-    then_paid w = then_on _ (tables s t r) _ (through_on (λ t. t.header) (λ t u. tables u t.seeds t.records) (λ t u. tables u t.seeds t.records) (λ e. e) (charged (work 1)) (tables s t r) p) w
+    then_paid w = then_on _ (tables s t r) _ (through_on (λ t. t.header) (λ t u. tables u t.seeds t.records) (λ t u. tables u t.seeds t.records) (λ e. e) (billing (work 1)) (tables s t r) p) w
 
     pub value_missing : u.counts.constants ≤ k → stopped (told Missing) (tables u t r) ≡ value_steps constants a k (tables s t r)
     value_missing l = then_paid (rw (le-ltb k u.counts.constants l))
@@ -113,31 +113,31 @@ module _ (s : Store) (t r : List ℕ) (h : List ℤ) where
 -- what the call does where the tests admit it
 abbrev interval_steps : ℕ → ℤ → ℤ → Metered Told IntervalTables (Unit {0})
 interval_steps a low high =
-    in_tables (in_header (charged (work 1))) >>
+    in_tables (in_header (billing (work 1))) >>
     unless (λ t. le_z low high) Descending
     (in_tables (in_records (provenance a)) >> in_ends (seed_ends a low high))
 
 module _ (a : ℕ) (low high : ℤ) (s : Store) (t r : List ℕ) (h : List ℤ) where
-  pub interval_open : {x : Run Told IntervalTables (Unit {0})} → length h ≡ size.thresholds → sizes (length t) (length r) ≡ true → admits s.phase ≡ true → s.counts.thresholds ≤ size.thresholds_before_call → spacious s ≡ true →
+  pub interval_open : {x : Run Told IntervalTables (Unit {0})} → length h ≡ size.thresholds → sized (length t) (length r) ≡ true → admits s.phase ≡ true → s.counts.thresholds ≤ size.thresholds_before_call → spacious s ≡ true →
       x ≡ interval_steps a low high (interval_tables s t r h) → x ≡ seed_interval_call a low high (interval_tables s t r h)
   unfolding seed_interval_call
   interval_open n y g l e w = rw (eq-eqb (length h) size.thresholds n, y, g, le-leb s.counts.thresholds size.thresholds_before_call l, e) w
 
-  pub interval_unpaid : {x : Told} {u : Store} → stopped x u ≡ charged (work 1) s → stopped x (interval_tables u t r h) ≡ interval_steps a low high (interval_tables s t r h)
-  interval_unpaid e = then_stop _ (interval_tables s t r h) _ (wide_header_stop s t r h (charged (work 1)) e)
+  pub interval_unpaid : {x : Told} {u : Store} → stopped x u ≡ billing (work 1) s → stopped x (interval_tables u t r h) ≡ interval_steps a low high (interval_tables s t r h)
+  interval_unpaid e = then_stop _ (interval_tables s t r h) _ (wide_header_stop s t r h (billing (work 1)) e)
 
-  module _ {u : Store} (p : going tt u ≡ charged (work 1) s) where
+  module _ {u : Store} (p : going tt u ≡ billing (work 1) s) where
     pub interval_descending : lt_z high low ≡ true → stopped (told Descending) (interval_tables u t r h) ≡ interval_steps a low high (interval_tables s t r h)
-    interval_descending l = then_on _ (interval_tables s t r h) _ (wide_header_on s t r h (charged (work 1)) p) (rw (no_le low high (lt_yes high low l)))
+    interval_descending l = then_on _ (interval_tables s t r h) _ (wide_header_on s t r h (billing (work 1)) p) (rw (no_le low high (lt_yes high low l)))
 
     module _ (l : lt_z high low ≡ false) where
       pub interval_unrecorded : {x : Told} {v : Store} {r' : List ℕ} → stopped x (records v r') ≡ provenance a (records u r) → stopped x (interval_tables v t r' h) ≡ interval_steps a low high (interval_tables s t r h)
       interval_unrecorded w =
-          then_on _ (interval_tables s t r h) _ (wide_header_on s t r h (charged (work 1)) p)
+          then_on _ (interval_tables s t r h) _ (wide_header_on s t r h (billing (work 1)) p)
           (rw (yes_le low high (lt_no high low l)) (then_stop _ (interval_tables u t r h) _ (wide_records_stop u t r h (provenance a) w)))
 
       pub interval_seeded : {v : Store} {r' : List ℕ} {x : Run Told IntervalTables (Unit {0})} → going tt (records v r') ≡ provenance a (records u r) → x ≡ in_ends (seed_ends a low high) (interval_tables v t r' h) →
           x ≡ interval_steps a low high (interval_tables s t r h)
       interval_seeded w i =
-          then_on _ (interval_tables s t r h) _ (wide_header_on s t r h (charged (work 1)) p)
+          then_on _ (interval_tables s t r h) _ (wide_header_on s t r h (billing (work 1)) p)
           (rw (yes_le low high (lt_no high low l)) (then_on _ (interval_tables u t r h) _ (wide_records_on u t r h (provenance a) w) i))

@@ -14,9 +14,8 @@ use Rattle.limits.specs.Refusal.{Told, told, replied}
 use Rattle.limits.specs.declared.Refusal.{Refusal}
 use Rattle.limits.proofs.Answering.{replied_through}
 use Rattle.limits.specs.declared.Meter.{Meter}
-use Rattle.limits.specs.Metered.{Run, going, stopped, Metered, answered, mapped, through}
+use Rattle.limits.specs.Metered.{Run, going, stopped, Metered, answered, mapped, through, seen}
 use Rattle.std.proofs.Common.{Result, Ok, Err}
-use Rattle.lists.specs.Ids.{seen}
 use Rattle.limits.specs.Meter.{released as fewer, held_through, meter_of, with_meter, holding}
 use Rattle.limits.specs.Budget.{released, widened_once}
 use Rattle.limits.proofs.Monad.{bind_stop, bind_on, then_stop, then_on, through_on, through_stop}
@@ -25,14 +24,14 @@ use Rattle.interval.specs.declared.Constant.{Constant}
 use Rattle.lattice.specs.declared.Abstract.{Abstract}
 use Rattle.lattice.specs.Value.{Value, value_of}
 use Rattle.lattice.specs.Constants.{constant_at}
-use Rattle.lattice.specs.Lattice.{numeric, constant, join}
+use Rattle.lattice.specs.Lattice.{numeric, constant, join, loses}
 use Rattle.rows.specs.Row.{list_of, entries_of, value_at, put}
 use Rattle.thresholds.specs.Thresholds.{Entry, entry, around}
 use Rattle.thresholds.proofs.Sorted.{Ending, Grows, around_grows}
 use Rattle.store.specs.declared.Store.{Store}
 use Rattle.store.specs.Store.{with_budget, with_thresholds}
 use Rattle.store.specs.Calls.{Marks, marks, entering}
-use Rattle.seeds.specs.Seed.{loses, dropped, joined, Rows, rows, paying, seed, constant_value, seed_constant, marking, ends, seed_ends}
+use Rattle.seeds.specs.Seed.{dropped, joined, Rows, rows, paying, seed, constant_value, seed_constant, marking, ends, seed_ends}
 
 -- ---- the live entries of a value
 

@@ -29,20 +29,20 @@ use Rattle.limits.proofs.Ends.{Ends, completes, stops, ends_test, ends_bind, end
 use Rattle.interval.specs.declared.Constant.TheVariants.{Number as number}
 use Rattle.lattice.specs.Value.{Value}
 use Rattle.lattice.specs.Constants.{constant_at}
-use Rattle.lattice.specs.Lattice.{join}
+use Rattle.lattice.specs.Lattice.{join, loses}
 use Rattle.lattice.proofs.Joins.{joined_list, joined_value, join_is}
 use Rattle.lattice.proofs.LiveLaws.{constant_lives, join_lives}
 use Rattle.sizes.specs.Sizes.{value_row}
 use Rattle.rows.specs.Row.{entries_of, value_at, put}
 use Rattle.rows.proofs.RowLaws.{size_is, length_put, put_back, put_other}
-use Rattle.store.specs.Store.{Context}
+use Rattle.limits.specs.Context.{Context}
 use Rattle.std.proofs.Common.{None, Some}
 use Rattle.store.specs.declared.Store.{Store}
 use Rattle.store.specs.Store.{with_budget, with_provenance}
-use Rattle.store.specs.Calls.{open?, charged}
+use Rattle.store.specs.Calls.{open?, billing}
 use Rattle.store.proofs.Frame.{Spent, spends_work, spends_links}
 use Rattle.provenance.specs.Provenance.{records, record_in, provenance, recordable}
-use Rattle.seeds.specs.Seed.{loses, dropped, joined, rows, seed, constant_value, seed_constant, sizes, spacious, Tables, tables, in_records, in_rows, seed_value_call}
+use Rattle.seeds.specs.Seed.{dropped, joined, rows, seed, constant_value, seed_constant, sized, spacious, Tables, tables, in_records, in_rows, seed_value_call}
 use Rattle.seeds.proofs.Seeded.{Regular, entries_in, lost, regular_constant, constant_seed, constant_is, regular_join, lost_step, old_part, seeded_put, live_put, lost_put}
 use Rattle.seeds.proofs.Beside.{Standing, Beside, beside_more, Quiet, quiet_more, wider, same_count, standing_quiet, Kin, Bill, same_bill, beside_budget, quiet_bill, spent_bill, charged_ends}
 
@@ -169,7 +169,7 @@ module _ (constants : List ℕ) (a : ℕ) (s : Store) (seeds : List ℕ) (stands
         (ends_through (λ t. t.header) (λ t u. rows u t.seeds) (λ t u. rows u t.seeds) (λ e. e)
         {R = λ new t. (c : Budget) × Settled s.budget.statistics.entries (value_at seeds a) v new b c × (t ≡ rows (with_budget c s) seeds)}
         {U = λ x t. Held x s seeds t.header t.seeds}
-        (charged (joined (value_at seeds a) v)) (rows (with_budget b s) seeds)
+        (billing (joined (value_at seeds a) v)) (rows (with_budget b s) seeds)
         (charged_ends (joined (value_at seeds a) v) (with_budget b s) (joined_ends (value_at seeds a) v s.budget.statistics.entries b held.entries))
         (λ new u p. (p.0, p.1, rw p.2))
         (λ x u p. record { quiet = rw p.4 (quiet_bill s (record { kin = kin_more p.3.kin; entries = p.3.entries; widened = p.3.widened ∙ held.widened })); same = refl; late = p.0 }))
@@ -184,7 +184,7 @@ module _ (constants : List ℕ) (a : ℕ) (s : Store) (seeds : List ℕ) (stands
       (ends_through (λ t. t.header) (λ t u. rows u t.seeds) (λ t u. rows u t.seeds) (λ e. e)
       {R = λ v t. (b : Budget) × ((Regular s.budget.limits.width s.counts.constants constants v × (v ≡ constant_seed id (constant_at constants id) s.budget.limits.width)) × Bill (s.budget.statistics.entries + entries_of v) s.budget b) × (t ≡ rows (with_budget b s) seeds)}
       {U = λ x t. Held x s seeds t.header t.seeds}
-      (charged (constant_value constants id)) (rows s seeds)
+      (billing (constant_value constants id)) (rows s seeds)
       (charged_ends (constant_value constants id) s (constant_ends constants s.counts.constants id s.budget i f g))
       (λ v u p. (p.0, p.1, rw p.2))
       (λ x u p. record { quiet = rw p.4 (quiet_bill s p.3); same = refl; late = p.0 }))
@@ -261,7 +261,7 @@ provenance_ends a s table =
         (ends_through (λ t. t.header) (λ t u. records u t.table) (λ t u. records u t.table) (λ y. y)
         {R = λ _ t. (b : Budget) × Spent s.budget b × (t ≡ records (with_budget b s) table)}
         {U = λ x t. Unnoted x s table t.header t.table}
-        (charged (links 1)) (records s table)
+        (billing (links 1)) (records s table)
         (charged_ends (links 1) s ((spends_links 1).at s.budget))
         (λ _ u p. (p.0, p.1, rw p.2))
         (λ x u p. record { quiet = rw p.4 (quiet_bill s (spent_bill p.3)); same = refl; count = rw p.4; late = p.0 }))
@@ -354,7 +354,7 @@ module _ (constants : List ℕ) (a k : ℕ) (t : Tables) (stands : Standing cons
   pub seed_value_kept : Ends (λ _ u. ValueTaken constants a k t u) (λ x u. ValueRefused a x t u) (seed_value_call constants a k t)
   unfolding seed_value_call
   seed_value_kept =
-      ends_test (eqb (length constants) size.constant_cells && sizes (length t.seeds) (length t.records))
+      ends_test (eqb (length constants) size.constant_cells && sized (length t.seeds) (length t.records))
       (λ e.
       let z : length t.seeds ≡ size.argument_cells = eqb-true (length t.seeds) size.argument_cells (and_left _ (eqb (length t.records) size.record_cells) (and_right (eqb (length constants) size.constant_cells) _ e)) in
       ends_test (open? t.header)
@@ -368,7 +368,7 @@ module _ (constants : List ℕ) (a k : ℕ) (t : Tables) (stands : Standing cons
       (ends_through (λ w. w.header) (λ w s. tables s w.seeds w.records) (λ w s. tables s w.seeds w.records) (λ y. y)
       {R = λ _ u. (b : Budget) × Spent t.header.budget b × (u ≡ tables (with_budget b t.header) t.seeds t.records)}
       {U = λ x u. ValueRefused a x t u}
-      (charged (work 1)) t
+      (billing (work 1)) t
       (charged_ends (work 1) t.header ((spends_work 1).at t.header.budget))
       (λ _ s q. (q.0, q.1, rw q.2))
       (λ x s q. record { same = refl; quiet = rw q.4 (wider (quiet_bill t.header (spent_bill q.3))); noted = inl (rw q.4 (refl, refl)); fits = λ l. rw q.4 l; whole = λ l. absurd (omega (arith, q.0)) }))

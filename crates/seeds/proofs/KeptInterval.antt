@@ -30,12 +30,12 @@ use Rattle.rows.specs.Row.{value_at}
 use Rattle.std.proofs.Common.{None}
 use Rattle.store.specs.declared.Store.{Store}
 use Rattle.store.specs.Store.{with_budget}
-use Rattle.store.specs.Calls.{open?, charged, Marks, marks, entering}
+use Rattle.store.specs.Calls.{open?, billing, Marks, marks, entering}
 use Rattle.store.proofs.Frame.{Spent, spends_work, Marking, entering_left, ending_ends}
 use Rattle.thresholds.specs.Thresholds.{Entry, entry, around}
 use Rattle.thresholds.proofs.Sorted.{Rises, Has, Kept, Near, Surrounded, around_keeps}
 use Rattle.provenance.specs.Provenance.{records, provenance, recordable}
-use Rattle.seeds.specs.Seed.{rows, seed, sizes, spacious, tables, in_header, in_records, ends, seed_ends, IntervalTables, interval_tables, in_tables, in_ends, seed_interval_call}
+use Rattle.seeds.specs.Seed.{rows, seed, sized, spacious, tables, in_header, in_records, ends, seed_ends, IntervalTables, interval_tables, in_tables, in_ends, seed_interval_call}
 use Rattle.seeds.proofs.Seeded.{regular_numeric}
 use Rattle.seeds.proofs.Beside.{Standing, Beside, beside_more, Quiet, quiet_more, quiet_wider, wider, same_count, same_marks, standing_quiet, same_bill, quiet_bill, spent_bill, charged_ends}
 use Rattle.seeds.proofs.Kept.{seed_ends_lem, Noted, noted_fits, Notes, Unnoted, provenance_ends}
@@ -208,7 +208,7 @@ module _ (constants : List ℕ) (a : ℕ) (low high : ℤ) (t : IntervalTables) 
       let q = quiet_bill t.header (same_bill t.header.budget) in
       stops record { same = refl; quiet = six (wider q); noted = inl (refl, refl); fits = λ l. l; marked = unmarked t.header q.beside; marks_fit = λ l. l; whole = λ _. refl }
 
-  -- only work was charged
+  -- only work was billing
   late_interval : (x : Told) (b : Budget) → Spent t.header.budget b → 3 ≤ x.number → IntervalRefused a low high x t (interval_tables (with_budget b t.header) t.seeds t.records t.thresholds)
   late_interval x b paid l =
       let q = quiet_bill t.header (spent_bill paid) in
@@ -324,9 +324,9 @@ module _ (constants : List ℕ) (a : ℕ) (low high : ℤ) (t : IntervalTables) 
   pub seed_interval_kept : Ends (λ _ u. IntervalTaken constants a low high t u) (λ x u. IntervalRefused a low high x t u) (seed_interval_call a low high t)
   unfolding seed_interval_call
   seed_interval_kept =
-      ends_test (eqb (length t.thresholds) size.thresholds && sizes (length t.seeds) (length t.records))
+      ends_test (eqb (length t.thresholds) size.thresholds && sized (length t.seeds) (length t.records))
       (λ e.
-      let y : length t.thresholds ≡ size.thresholds = eqb-true (length t.thresholds) size.thresholds (and_left _ (sizes (length t.seeds) (length t.records)) e) in
+      let y : length t.thresholds ≡ size.thresholds = eqb-true (length t.thresholds) size.thresholds (and_left _ (sized (length t.seeds) (length t.records)) e) in
       let z : length t.seeds ≡ size.argument_cells = eqb-true (length t.seeds) size.argument_cells (and_left _ (eqb (length t.records) size.record_cells) (and_right (eqb (length t.thresholds) size.thresholds) _ e)) in
       ends_test (open? t.header)
       (λ _.
@@ -339,11 +339,11 @@ module _ (constants : List ℕ) (a : ℕ) (low high : ℤ) (t : IntervalTables) 
       (ends_through (λ w. tables w.header w.seeds w.records) (λ w u. interval_tables u.header u.seeds u.records w.thresholds) (λ w u. interval_tables u.header u.seeds u.records w.thresholds) (λ y. y)
       {R = λ _ u. (b : Budget) × Spent t.header.budget b × (u ≡ interval_tables (with_budget b t.header) t.seeds t.records t.thresholds)}
       {U = λ x u. IntervalRefused a low high x t u}
-      (in_header (charged (work 1))) t
+      (in_header (billing (work 1))) t
       (ends_through (λ w. w.header) (λ w s. tables s w.seeds w.records) (λ w s. tables s w.seeds w.records) (λ y. y)
       {R = λ _ u. (b : Budget) × Spent t.header.budget b × (u ≡ tables (with_budget b t.header) t.seeds t.records)}
       {U = λ x u. (3 ≤ x.number) × (b : Budget) × Spent t.header.budget b × (u ≡ tables (with_budget b t.header) t.seeds t.records)}
-      (charged (work 1)) (tables t.header t.seeds t.records)
+      (billing (work 1)) (tables t.header t.seeds t.records)
       (charged_ends (work 1) t.header ((spends_work 1).at t.header.budget))
       (λ _ s q. (q.0, q.1, rw q.2))
       (λ x s q. (q.0, q.2, q.3, rw q.4)))

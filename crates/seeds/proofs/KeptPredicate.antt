@@ -22,7 +22,7 @@ use Rattle.sizes.specs.Sizes.{value_row}
 use Rattle.rows.specs.Row.{value_at}
 use Rattle.store.specs.declared.Store.{Store}
 use Rattle.store.specs.Store.{with_budget, with_predicate}
-use Rattle.store.specs.Calls.{open?, charged, declared, room_for, add_predicate, predicate_call}
+use Rattle.store.specs.Calls.{open?, billing, declared, room_for, add_predicate, predicate_call}
 use Rattle.store.specs.Calls as store
 use Rattle.store.proofs.CodeLaws.{room_yes}
 use Rattle.seeds.proofs.Seeded.{bottoms_length, bottoms_old, bottoms_new, seeded_bottoms, live_bottoms, lost_bottoms}
@@ -57,7 +57,7 @@ pub record PredicateTaken (constants : List ℕ) (arity id : ℕ) (t t' : store.
   pub rows : t'.rows ≡ sets t.rows (2 * t.header.counts.predicates) (t.header.counts.positions ∷ arity ∷ [])
   pub few : t.header.counts.predicates < 64
   pub most : t.header.counts.positions + arity ≤ 256
-  -- the header: one predicate and its arguments more, which were charged, with their work
+  -- the header: one predicate and its arguments more, which were billing, with their work
   pub header : t'.header ≡ with_predicate arity (with_budget (billed Work arity (billed Positions arity (billed Predicates 1 (billed Work 1 t.header.budget)))) t.header)
 
 -- refused: nothing is changed but for one unit of work, and with number 1 or 2 not even that
@@ -115,7 +115,7 @@ module _ (constants : List ℕ) (arity : ℕ) (t : store.Tables) (stands : Stand
       (ends_through (λ w. w.header) (λ w s. store.tables s w.rows w.seeds) (λ w s. store.tables s w.rows w.seeds) (λ y. y)
       {R = λ _ u. u ≡ store.tables worked t.rows t.seeds}
       {U = λ x u. PredicateRefused x t u}
-      (charged (work 1)) t
+      (billing (work 1)) t
       (charged_ends (work 1) t.header (charge_ends Work 1 t.header.budget))
       (λ _ s q. rw (q.2, q.1))
       (λ x s q. rw (q.4, q.3.1) record { left = inl refl; same = refl; same_rows = refl; quiet = quiet_bill t.header (same_bill t.header.budget); whole = λ _. refl }))
@@ -125,7 +125,7 @@ module _ (constants : List ℕ) (arity : ℕ) (t : store.Tables) (stands : Stand
       (ends_through (λ w. w.header) (λ w s. store.tables s w.rows w.seeds) (λ w s. store.tables s w.rows w.seeds) (λ y. y)
       {R = λ _ u. u ≡ store.tables (with_budget (billed Work arity (billed Positions arity (billed Predicates 1 (billed Work 1 t.header.budget)))) t.header) t.rows t.seeds}
       {U = λ x u. PredicateRefused x t u}
-      (charged (declared arity)) (store.tables worked t.rows t.seeds)
+      (billing (declared arity)) (store.tables worked t.rows t.seeds)
       (charged_ends (declared arity) worked (declared_ends arity worked.budget))
       (λ _ s q. rw (q.2, q.1))
       (λ x s q. rw (q.4, q.3) record { left = inr refl; same = refl; same_rows = refl; quiet = quiet_bill t.header work_bill; whole = λ l. absurd (omega (arith, q.0)) }))

@@ -31,7 +31,7 @@ use Rattle.lattice.specs.Value.{Reason}
 use Rattle.std.specs.Prelude.{None, Some}
 use Rattle.lattice.specs.Value.{Value, value}
 use Rattle.lattice.specs.Constants.{constant_of, constant_at, Retained}
-use Rattle.lattice.specs.Lattice.{bottom, numeric, retained, constant}
+use Rattle.lattice.specs.Lattice.{bottom, numeric, retained, constant, loses}
 use Rattle.lattice.proofs.Joins.{joined_list, joined_value}
 use Rattle.sizes.specs.Sizes.{value_row}
 use Rattle.rows.specs.Row.{entries_of, value_at, put}
@@ -40,7 +40,6 @@ use Rattle.rows.proofs.RowLaws.{length_put, put_back, put_other}
 use Rattle.rows.proofs.Formed.{proper_hull}
 use Rattle.rows.proofs.Good.{all_union}
 use Rattle.store.specs.Calls.{bottoms}
-use Rattle.seeds.specs.Seed.{loses}
 
 -- ---- what a seed is
 

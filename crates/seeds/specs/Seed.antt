@@ -17,16 +17,10 @@ use Rattle.lattice.specs.Lattice.{constant, numeric, join}
 use Rattle.rows.specs.Row.{entries_of, value_at, put}
 use Rattle.thresholds.specs.Thresholds.{around}
 use Rattle.store.specs.declared.Store.{Store}
-use Rattle.store.specs.Calls.{unless, open?, charged, Marks, marks, entering}
+use Rattle.store.specs.Calls.{unless, open?, billing, Marks, marks, entering}
 use Rattle.provenance.specs.Provenance.{Records, records, provenance, recordable}
 
 -- ---- a seed
-
--- the list is lost
-abbrev pub loses : Option (List ℕ) → Option (List ℕ) → Bool
-loses none new = false
-loses (some l) none = true
-loses (some l) (some m) = false
 
 -- after the join: an argument that lost its list is counted, and the old seed and the value are dropped
 abbrev pub dropped : Value → Value → Value → Budget → Budget
@@ -44,7 +38,7 @@ abbrev pub rows : Store → List ℕ → Rows
 rows s t = record { header = s; seeds = t }
 
 abbrev pub paying : {A : Type 0} → Metered Stop Budget A → Metered Told Rows A
-paying m = zoom (λ t. t.header) (λ s t. rows s t.seeds) (charged m)
+paying m = zoom (λ t. t.header) (λ s t. rows s t.seeds) (billing m)
 
 -- the seed of an argument
 unfoldable pub seed : ℕ → Value → Metered Told Rows (Unit {0})
@@ -52,8 +46,8 @@ seed a v t = (paying (joined (value_at t.seeds a) v) >>= (λ new u. going tt (ro
 
 -- ---- refusals 1 and 2, of both calls
 
-abbrev pub sizes : ℕ → ℕ → Bool
-sizes seeds records = eqb seeds size.argument_cells && eqb records size.record_cells
+abbrev pub sized : ℕ → ℕ → Bool
+sized seeds records = eqb seeds size.argument_cells && eqb records size.record_cells
 
 -- more rows than the tables have meet 2 as well
 abbrev pub spacious : Store → Bool
@@ -88,10 +82,10 @@ seed_constant constants a k = paying (constant_value constants k) >>= seed a
 
 unfoldable pub seed_value_call : List ℕ → ℕ → ℕ → Metered Told Tables (Unit {0})
 seed_value_call constants a k =
-    unless (λ t. eqb (length constants) size.constant_cells && sizes (length t.seeds) (length t.records)) Shape
+    unless (λ t. eqb (length constants) size.constant_cells && sized (length t.seeds) (length t.records)) Shape
     (unless (λ t. open? t.header) Closed
     (unless (λ t. leb t.header.counts.constants size.constants && spacious t.header) Full
-    (in_header (charged (work 1)) >>
+    (in_header (billing (work 1)) >>
     unless (λ t. ltb k t.header.counts.constants) Missing
     (in_records (provenance a) >> in_rows (seed_constant constants a k)))))
 
@@ -134,9 +128,9 @@ in_ends = zoom (λ t. ends t.header t.seeds t.thresholds) (λ e t. interval_tabl
 -- "`seed_interval` charges 1 work, rejects low > high, then records provenance, then thresholds, then joins."
 unfoldable pub seed_interval_call : ℕ → ℤ → ℤ → Metered Told IntervalTables (Unit {0})
 seed_interval_call a low high =
-    unless (λ t. eqb (length t.thresholds) size.thresholds && sizes (length t.seeds) (length t.records)) Shape
+    unless (λ t. eqb (length t.thresholds) size.thresholds && sized (length t.seeds) (length t.records)) Shape
     (unless (λ t. open? t.header) Closed
     (unless (λ t. leb t.header.counts.thresholds size.thresholds_before_call && spacious t.header) Full
-    (in_tables (in_header (charged (work 1))) >>
+    (in_tables (in_header (billing (work 1))) >>
     unless (λ t. le_z low high) Descending
     (in_tables (in_records (provenance a)) >> in_ends (seed_ends a low high)))))

@@ -3,29 +3,23 @@
 #![tactic(auto)]
 
 ghost use Rattle.std.specs.Prelude.{◌≡◌, ◌+◌, ◌≤◌, length};
+ghost use Rattle.lattice.specs.Lattice.{loses};
 ghost use Rattle.limits.specs.Refusal.{replied};
-ghost use Rattle.lists.specs.Ids.{seen};
+ghost use Rattle.limits.specs.Metered.{seen};
 ghost use Rattle.lattice.specs.Value.{value_of};
 ghost use Rattle.store.specs.Calls.{marks};
-ghost use Rattle.seeds.specs.Seed.{loses, dropped, joined, rows, seed, constant_value, seed_constant, sizes, spacious, tables, marking, ends, seed_ends, interval_tables, seed_value_call, seed_interval_call};
+ghost use Rattle.seeds.specs.Seed.{dropped, joined, rows, seed, constant_value, seed_constant, sized, spacious, tables, marking, ends, seed_ends, interval_tables, seed_value_call, seed_interval_call};
 
 use interval::Interval;
 use lattice::Abstract;
 use limits::{Budget, Refusal, Resource, Stop};
 use store::Store;
 
-// Whether the list is lost on the way from one value to another.
-pub fn is_lost(old: Abstract, new: Abstract) -> bool
-    ensures { result ≡ loses (value_of old).values (value_of new).values }
-{
-    old.kept && !new.kept
-}
-
 // What is left after a join: the old seed and the value are dropped.
 fn drop_both(old: Abstract, value: Abstract, new: Abstract, budget: &mut Budget)
     ensures { budget.new ≡ dropped (value_of old) (value_of value) (value_of new) budget.old }
 {
-    if is_lost(old, new) {
+    if lattice::is_lost(&old, &new) {
         budget.count_widened();
     }
     budget.release_entries(rows::entries_of(old) + rows::entries_of(value));
@@ -87,7 +81,7 @@ fn seed_constant(
 
 // The sizes of the tables that both calls are lent.
 fn is_sized(seeds: usize, records: usize) -> bool
-    ensures { result ≡ sizes seeds records }
+    ensures { result ≡ sized seeds records }
 {
     seeds == sizes::ARGUMENT_CELLS && records == sizes::RECORD_CELLS
 }

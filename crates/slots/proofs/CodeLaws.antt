@@ -19,7 +19,7 @@ use Rattle.lattice.specs.Lattice.{top, copied}
 use Rattle.rows.specs.Row.{entries_of, value_at, put}
 use Rattle.rules.specs.declared.Binding.{Binding}
 use Rattle.rules.specs.declared.Binding.TheVariants.{Positive, Assign, Range, Aggregate}
-use Rattle.slots.specs.Slots.{Slots, slots, paying, total, fewer, holding_rows, putting, settled, replace, meet_into, meet_owned, step, each, tops, meet_argument, marked, mark_dependent, copies}
+use Rattle.slots.specs.Slots.{Slots, slots, paying, total, fewer, holding_rows, putting, settled, replace, meet_into, meet_owned, after_unit, each, tops, meet_argument, marked, mark_dependent, copies}
 
 -- ---- rows that are dropped
 
@@ -58,13 +58,13 @@ pub owned : (constants : List ℕ) (slot : ℕ) (v : Value) (s : Slots) (r : Res
 unfolding meet_owned
 owned constants slot v s r t rows h live q = rw (q, live) (answered_through (λ u. u) (λ _ u. fewer (entries_of v) u) (meet_into constants slot v) s r (slots t rows) h)
 
--- ---- a unit of work, and then the step
+-- ---- a unit of work, and then the after_unit
 
 module _ (m : Metered Stop Slots (Unit {0})) (s : Meter) (rows : List ℕ) where
-  pub step_stop : {e : Stop} {t : Meter} → stopped e t ≡ work 1 s → stopped e (slots t rows) ≡ step m (slots s rows)
+  pub step_stop : {e : Stop} {t : Meter} → stopped e t ≡ work 1 s → stopped e (slots t rows) ≡ after_unit m (slots s rows)
   step_stop h = then_stop (paying (work 1)) (slots s rows) m (through_stop _ _ _ _ (work 1) (slots s rows) h)
 
-  pub step_goes : {t : Meter} {y : Run Stop Slots (Unit {0})} → going tt t ≡ work 1 s → y ≡ m (slots t rows) → y ≡ step m (slots s rows)
+  pub step_goes : {t : Meter} {y : Run Stop Slots (Unit {0})} → going tt t ≡ work 1 s → y ≡ m (slots t rows) → y ≡ after_unit m (slots s rows)
   step_goes h k = then_on (paying (work 1)) (slots s rows) m (through_on _ _ _ _ (work 1) (slots s rows) h) k
 
 -- ---- rows that nothing is known of
@@ -77,7 +77,7 @@ module _ (count : ℕ) (m : Meter) (rows : List ℕ) where
   filling = let e : count ≡ count - 0 = omega arith in onward_begins (slots m rows) (ap (tops 0) e)
 
   module _ {k : ℕ} {t : Meter} {now : List ℕ} (h : Filling k t now) where
-    next : k < count → tops k (count - k) ≡ (step (putting k (top None)) >> tops (k + 1) (count - (k + 1)))
+    next : k < count → tops k (count - k) ≡ (after_unit (putting k (top None)) >> tops (k + 1) (count - (k + 1)))
     unfolding tops
     next l = let e : count - k ≡ suc (count - (k + 1)) = omega arith in ap (tops k) e
 
@@ -86,10 +86,10 @@ module _ (count : ℕ) (m : Meter) (rows : List ℕ) where
     filled l = let e : count - k ≡ 0 = omega arith in onward_ends h (ap (tops k) e)
 
     pub fill_stopped : {e : Stop} {u : Meter} → k < count → stopped e u ≡ work 1 t → stopped e (slots u now) ≡ tops 0 count (slots m rows)
-    fill_stopped l w = then_stops h (step (putting k (top None))) _ (next l) (step_stop (putting k (top None)) t now w)
+    fill_stopped l w = then_stops h (after_unit (putting k (top None))) _ (next l) (step_stop (putting k (top None)) t now w)
 
     pub fill_more : {u : Meter} {v : Value} {now' : List ℕ} → k < count → going tt u ≡ work 1 t → v ≡ top None → now' ≡ put now k v → Filling (k + 1) u now'
-    fill_more l w p q = then_goes h (step (putting k (top None))) _ (next l) (step_goes (putting k (top None)) t now w (rw (q, p)))
+    fill_more l w p q = then_goes h (after_unit (putting k (top None))) _ (next l) (step_goes (putting k (top None)) t now w (rw (q, p)))
 
 -- ---- one after another, of a run of items
 
@@ -106,15 +106,15 @@ module _ {A : Type 0} (f : A → Metered Stop Slots (Unit {0})) (g : ℕ → A) 
     gone l = let e : count - j ≡ 0 = omega arith in onward_ends h (ap (λ (n : ℕ). each f (from g j n)) e)
 
     module _ (l : j < count) {a : A} (q : a ≡ g j) where
-      next_of : each f (from g j (count - j)) ≡ (step (f (g j)) >> each f (from g (j + 1) (count - (j + 1))))
+      next_of : each f (from g j (count - j)) ≡ (after_unit (f (g j)) >> each f (from g (j + 1) (count - (j + 1))))
       unfolding each from
       next_of = let e : count - j ≡ suc (count - (j + 1)) = omega arith in ap (λ (n : ℕ). each f (from g j n)) e
 
-      pub one_stopped : {e : Stop} {u : Slots} → stopped e u ≡ step (f a) t → stopped e u ≡ each f (from g 0 count) s
-      one_stopped k = then_stops h (step (f a)) (each f (from g (j + 1) (count - (j + 1)))) (rw q next_of) k
+      pub one_stopped : {e : Stop} {u : Slots} → stopped e u ≡ after_unit (f a) t → stopped e u ≡ each f (from g 0 count) s
+      one_stopped k = then_stops h (after_unit (f a)) (each f (from g (j + 1) (count - (j + 1)))) (rw q next_of) k
 
-      pub one_more : {u : Slots} → going tt u ≡ step (f a) t → Going (j + 1) u
-      one_more k = then_goes h (step (f a)) (each f (from g (j + 1) (count - (j + 1)))) (rw q next_of) k
+      pub one_more : {u : Slots} → going tt u ≡ after_unit (f a) t → Going (j + 1) u
+      one_more k = then_goes h (after_unit (f a)) (each f (from g (j + 1) (count - (j + 1)))) (rw q next_of) k
 
 -- ---- a binding, by its case
 

@@ -1,5 +1,5 @@
--- Live entries of a table of slots. Beside any others, e, the entries of its rows are live, before a step and after it, whichever way it ends;
--- whoever lends the table drops them where the step is stopped.
+-- Live entries of a table of slots. Beside any others, e, the entries of its rows are live, before a after_unit and after it, whichever way it ends;
+-- whoever lends the table drops them where the after_unit is stopped.
 use Prim.Native.Nat.{ℕ, zero, suc, ◌+◌, ◌*◌, ◌^◌, ◌≤◌, ◌<◌}
 use native.Mathlib.Omega.{arith}
 use native.Mathlib.Nat.{add-zero}
@@ -30,7 +30,7 @@ use Rattle.rows.proofs.RowLaws.{size_is, length_put, put_back, put_other}
 use Rattle.rows.proofs.Good.{Good, meet_good, refine_good, copied_good, top_good}
 use Rattle.rules.specs.declared.Binding.{Binding}
 use Rattle.rules.specs.declared.Binding.TheVariants.{Positive, Assign, Range, Aggregate}
-use Rattle.slots.specs.Slots.{Slots, slots, paying, fewer, holding_rows, total, putting, settled, replace, meet_into, meet_owned, refine_into, step, each, tops, meet_argument, marked, depending, mark_dependent, copies}
+use Rattle.slots.specs.Slots.{Slots, slots, paying, fewer, holding_rows, total, putting, settled, replace, meet_into, meet_owned, refine_into, after_unit, each, tops, meet_argument, marked, depending, mark_dependent, copies}
 
 -- ---- sums over rows
 
@@ -127,7 +127,7 @@ work_ends {n} {e} s h =
     ends_through (λ t. t.meter) (λ t m. slots m t.rows) (λ t m. slots m t.rows) (λ x. x) (work 1) s
     (live_ends (live_work 1) (any_value (work 1)) s.meter) (λ _ m q. (refl, held_as refl (omega (arith, q.1)) h)) (λ _ m q. (refl, held_as refl (omega arith) h))
 
-pub keeps_step : {n : ℕ} {m : Metered Stop Slots (Unit {0})} → Keeps n m → Keeps n (step m)
+pub keeps_step : {n : ℕ} {m : Metered Stop Slots (Unit {0})} → Keeps n m → Keeps n (after_unit m)
 keeps_step {m = m} h = record { at = λ e s p. ends_then (paying (work 1)) m s (work_ends s p) (λ _ t q. h.at e t q.1) (λ _ t q. q.1) }
 
 pub keeps_each : {A : Type 0} {n : ℕ} (f : A → Metered Stop Slots (Unit {0})) (l : List A) → All (λ a. Keeps n (f a)) l → Keeps n (each f l)
@@ -237,12 +237,12 @@ tops_ends k zero e s r h = ends_pure tt s (rw (add-zero k) h)
 tops_ends k (suc n) e s r h =
     let q : k + suc n ≡ k + 1 + n = omega arith in
     rw q
-    (ends_then {P = λ _ t. Held (k + 1) e t × (value_row * (k + 1 + n) ≤ length t.rows) × (t.meter.entries ≡ s.meter.entries)} {Q = λ _ t. t.meter.entries ≡ s.meter.entries} (step (putting k (top None))) (tops (k + 1) n) s (one k n e s r h)
+    (ends_then {P = λ _ t. Held (k + 1) e t × (value_row * (k + 1 + n) ≤ length t.rows) × (t.meter.entries ≡ s.meter.entries)} {Q = λ _ t. t.meter.entries ≡ s.meter.entries} (after_unit (putting k (top None))) (tops (k + 1) n) s (one k n e s r h)
     (λ _ t p. ends_as (tops_ends (k + 1) n e t p.1 p.0) (λ _ u z. z) (λ _ u z. z ∙ p.2))
     (λ _ t p. p))
   where
     one : (k n e : ℕ) (s : Slots) → value_row * (k + suc n) ≤ length s.rows → Held k e s →
-        Ends (λ _ t. Held (k + 1) e t × (value_row * (k + 1 + n) ≤ length t.rows) × (t.meter.entries ≡ s.meter.entries)) (λ _ t. t.meter.entries ≡ s.meter.entries) (step (putting k (top None)) s)
+        Ends (λ _ t. Held (k + 1) e t × (value_row * (k + 1 + n) ≤ length t.rows) × (t.meter.entries ≡ s.meter.entries)) (λ _ t. t.meter.entries ≡ s.meter.entries) (after_unit (putting k (top None)) s)
     one k n e s r h =
         ends_then {P = λ _ t. (t.rows ≡ s.rows) × Held k e t} {Q = λ _ t. (t.rows ≡ s.rows) × Held k e t} (paying (work 1)) (putting k (top None)) s (work_ends s h)
         (λ _ t p.

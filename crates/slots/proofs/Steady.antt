@@ -17,7 +17,7 @@ use Rattle.lattice.proofs.Steadiness.{copied_steady, meet_steady, refine_steady}
 use Rattle.rows.specs.Row.{value_at, put}
 use Rattle.rules.specs.declared.Binding.{Binding}
 use Rattle.rules.specs.declared.Binding.TheVariants.{Positive, Assign, Range, Aggregate}
-use Rattle.slots.specs.Slots.{Slots, paying, dropping, holding_rows, putting, settled, replace, meet_into, meet_owned, refine_into, step, each, tops, meet_argument, marked, depending, mark_dependent, copies}
+use Rattle.slots.specs.Slots.{Slots, paying, dropping, holding_rows, putting, settled, replace, meet_into, meet_owned, refine_into, after_unit, each, tops, meet_argument, marked, depending, mark_dependent, copies}
 
 abbrev pub OnRows : {A : Type 0} → Metered Stop Slots A → Type 0
 OnRows m = SteadyOn (λ s. s.rows) m
@@ -65,7 +65,7 @@ on_refine constants slot i = on_replace slot (λ old. refine_steady constants ol
 
 -- ---- all rows
 
-pub on_step : {m : Metered Stop Slots (Unit {0})} → OnRows m → OnRows (step m)
+pub on_step : {m : Metered Stop Slots (Unit {0})} → OnRows m → OnRows (after_unit m)
 on_step h = on_then (on_paying (steady_unit (work 1))) h
 
 pub on_each : {A : Type 0} {f : A → Metered Stop Slots (Unit {0})} → ((a : A) → OnRows (f a)) → (l : List A) → OnRows (each f l)

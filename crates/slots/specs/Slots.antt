@@ -71,17 +71,17 @@ refine_into constants slot i = replace slot (λ old. refine constants old i)
 -- ---- all rows
 
 -- a unit of work before each
-abbrev pub step : Metered Stop Slots (Unit {0}) → Metered Stop Slots (Unit {0})
-step m = paying (work 1) >> m
+abbrev pub after_unit : Metered Stop Slots (Unit {0}) → Metered Stop Slots (Unit {0})
+after_unit m = paying (work 1) >> m
 
 unfoldable pub each : {A : Type 0} → (A → Metered Stop Slots (Unit {0})) → List A → Metered Stop Slots (Unit {0})
 each f [] = pure tt
-each f (a ∷ l) = step (f a) >> each f l
+each f (a ∷ l) = after_unit (f a) >> each f l
 
 -- rows that nothing is known of, n of them from k on
 unfoldable pub tops : ℕ → ℕ → Metered Stop Slots (Unit {0})
 tops k zero = pure tt
-tops k (suc n) = step (putting k (top None)) >> tops (k + 1) n
+tops k (suc n) = after_unit (putting k (top None)) >> tops (k + 1) n
 
 -- "Positive occurrences constrain complete bindings, regardless of join order."
 abbrev pub meet_argument : List ℕ → List ℕ → Binding → Metered Stop Slots (Unit {0})

@@ -5,14 +5,16 @@
 ghost use Rattle.std.specs.Prelude.{◌≡◌};
 ghost use Rattle.limits.specs.Metered.{going, answered};
 ghost use Rattle.limits.specs.Meter.{released};
+ghost use Rattle.limits.specs.Budget as in_budgets;
 ghost use Rattle.lattice.specs.Value.{value_of};
 ghost use Rattle.rows.specs.Row.{value_at};
 ghost use Rattle.rules.specs.Read.{bindings_at};
-ghost use Rattle.slots.specs.Slots.{slots, total, settled, meet_into, meet_owned, refine_into, step, each, tops, meet_argument, mark_dependent, marked, copies};
+ghost use Rattle.slots.specs.Lent.{in_budget};
+ghost use Rattle.slots.specs.Slots.{slots, total, settled, meet_into, meet_owned, refine_into, after_unit, each, tops, meet_argument, mark_dependent, marked, copies};
 
 use interval::Interval;
 use lattice::{Abstract, Widening};
-use limits::{Meter, Stop};
+use limits::{Budget, Meter, Stop};
 use rules::Binding;
 
 // The values of the first `count` rows are dropped.
@@ -96,7 +98,7 @@ fn meet_argument(
     binding: Binding,
     meter: &mut Meter,
 ) -> Result<(), Stop>
-    ensures { answered result (slots meter.new cells.new) ≡ step (meet_argument constants.now arguments.now binding) (slots meter.old cells.old) }
+    ensures { answered result (slots meter.new cells.new) ≡ after_unit (meet_argument constants.now arguments.now binding) (slots meter.old cells.old) }
 {
     meter.work(1)?;
     if let Binding::Positive { slot, argument } = binding {
@@ -143,7 +145,7 @@ fn depend(cells: &mut [u32], slot: usize)
 
 // A positive binding: the reason of its slot.
 fn mark_dependent(cells: &mut [u32], binding: Binding, meter: &mut Meter) -> Result<(), Stop>
-    ensures { answered result (slots meter.new cells.new) ≡ step (mark_dependent binding) (slots meter.old cells.old) }
+    ensures { answered result (slots meter.new cells.new) ≡ after_unit (mark_dependent binding) (slots meter.old cells.old) }
 {
     meter.work(1)?;
     if let Binding::Positive { slot, argument: _ } = binding {
@@ -186,4 +188,23 @@ pub fn copy_rows(
         }
     }
     Ok(())
+}
+
+// Copies of the first `count` rows, in a budget.
+pub fn copy_in(from: &[u32], to: &mut [u32], count: usize, budget: &mut Budget) -> Result<(), Stop>
+    ensures { answered result (budget.new, to.new) ≡ in_budget (copies from.now 0 count) (budget.old, to.old) }
+{
+    let mut meter = budget.meter();
+    let copied = copy_rows(from, to, count, &mut meter);
+    budget.settle(meter);
+    copied
+}
+
+// The values of the first `count` rows are dropped, in a budget.
+pub fn without_rows(cells: &[u32], count: usize, budget: &mut Budget)
+    ensures { budget.new ≡ in_budgets.released (total cells.now count) budget.old }
+{
+    let mut meter = budget.meter();
+    drop_rows(cells, count, &mut meter);
+    budget.settle(meter);
 }

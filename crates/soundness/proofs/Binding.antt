@@ -28,7 +28,7 @@ use Rattle.lattice.specs.Lattice.{top, numeric, meet}
 use Rattle.lattice.proofs.Tidiness.{Tidy, numeric_tidy, meet_tidy}
 use Rattle.sizes.specs.Sizes.{value_row}
 use Rattle.rows.specs.Row.{value_at, put}
-use Rattle.rows.specs.WellFormed.{WellFormed, Proper as ProperEnds}
+use Rattle.rows.specs.WellFormed.{WellFormed, ProperKey as ProperEnds}
 use Rattle.rows.proofs.RowLaws.{length_put, put_back, put_other}
 use Rattle.rows.proofs.Formed.{meet_formed, top_formed, numeric_formed}
 use Rattle.operators.proofs.Formed.{span_proper}
@@ -39,15 +39,15 @@ use Rattle.rules.specs.declared.Binding.{Binding}
 use Rattle.rules.specs.declared.Binding.TheVariants.{Positive, Assign, Range, Aggregate}
 use Rattle.producers.specs.Producer.{Scope, scope}
 use Rattle.producers.proofs.Scoped.{Scoped, BindingIn}
-use Rattle.slots.specs.Slots.{Slots, paying, holding_rows, dropping, putting, settled, replace, meet_into, meet_owned, step, each, tops, meet_argument, marked, mark_dependent}
+use Rattle.slots.specs.Slots.{Slots, paying, holding_rows, dropping, putting, settled, replace, meet_into, meet_owned, after_unit, each, tops, meet_argument, marked, mark_dependent}
 use Rattle.refinements.specs.Refinement.{Refinement}
 use Rattle.operators.specs.Arithmetic.{span}
 use Rattle.evaluation.specs.Evaluation.{Input}
 use Rattle.evaluation.specs.Evaluation as evaluation
-use Rattle.bindings.specs.Bindings.{assigned, aggregate, spanning, ranged, meeting, meet_binding, passes}
+use Rattle.bindings.specs.Bindings.{assigned, aggregate, spanning, ranged, meeting, meet_binding, three_passes}
 use Rattle.bindings.specs.Bindings as bindings
-use Rattle.soundness.specs.Plain.{Choice, into, worth, Proper, State, Within, Aggregated, BindingHolds, AllHold}
-use Rattle.soundness.specs.Tied.{binding_of}
+use Rattle.soundness.specs.Plain.{Choice, into, worth, ProperKey, PlainState, Within, Aggregated, BindingHolds, AllHold}
+use Rattle.soundness.specs.Tied.{plain_binding}
 use Rattle.soundness.proofs.Lies.{Lies, top_lies, numeric_lies, meet_lies}
 use Rattle.soundness.proofs.Worth.{Scene, ProperChoice, proper_into, Worth}
 use Rattle.soundness.proofs.Evaluating.{Sound, SlotsIn, expression_sound}
@@ -99,7 +99,7 @@ module _ {I : List ℕ → Type 0} where
     at = λ s h. ends_through _ _ _ _ {P = λ _ _. Unit {0}} {Q = λ _ _. Unit {0}} m s (in_some_way (m s.meter)) (λ _ _ _. h) (λ _ _ _. tt);
   }
 
-  pub keeps_step : {m : Metered Stop Slots (Unit {0})} → Keeps I m → Keeps I (step m)
+  pub keeps_step : {m : Metered Stop Slots (Unit {0})} → Keeps I m → Keeps I (after_unit m)
   keeps_step h = keeps_then (keeps_paying (work 1)) h
 
   pub keeps_dropping : (v : Value) {m : Metered Stop Slots (Unit {0})} → Keeps I m → Keeps I (dropping v m)
@@ -171,7 +171,7 @@ pub tops_held : (w : Scene) (k n : ℕ) (s : Slots) → Held w k s.rows → valu
 unfolding tops
 tops_held w k zero s h r = ends_pure tt s (subst (λ (i : ℕ). Held w i s.rows) (omega arith) h)
 tops_held w k (suc n) s h r =
-    ends_then {P = λ _ t. Held w (k + 1) t.rows × (length t.rows ≡ length s.rows)} {Q = λ _ _. Unit {0}} (step (putting k (top None))) (tops (k + 1) n) s
+    ends_then {P = λ _ t. Held w (k + 1) t.rows × (length t.rows ≡ length s.rows)} {Q = λ _ _. Unit {0}} (after_unit (putting k (top None))) (tops (k + 1) n) s
     (ends_then {P = λ _ t. t.rows ≡ s.rows} {Q = λ _ _. Unit {0}} (paying (work 1)) (putting k (top None)) s
     (ends_through _ _ _ _ {P = λ _ _. Unit {0}} {Q = λ _ _. Unit {0}} (work 1) s (in_some_way (work 1 s.meter)) (λ _ _ _. refl) (λ _ _ _. tt))
     (λ _ t e.
@@ -207,7 +207,7 @@ both_sound w small expressions n width low high sl sh rows inside known hold =
 -- ---- the bindings
 
 -- a store's state as the analysis has it: what lies in the arguments' values
-abbrev pub Among : Scene → List ℕ → State
+abbrev pub Among : Scene → List ℕ → PlainState
 Among w arguments a k = Lies w.key w.constants (value_at arguments a) k
 
 module _ (w : Scene) (expressions n width : ℕ) (arguments : List ℕ) (count : ℕ) (small : All (λ k. k < 2 ^ 32) w.constants)
@@ -218,7 +218,7 @@ module _ (w : Scene) (expressions n width : ℕ) (arguments : List ℕ) (count :
   abbrev over : Input
   over = record { nodes = w.nodes; constants = w.constants; width = width }
 
-  positive_keeps : (b : Binding) (ch : Choice) → BindingIn count here b → BindingHolds w.opaque (Among w arguments) w.slots ch (binding_of w.tree b) →
+  positive_keeps : (b : Binding) (ch : Choice) → BindingIn count here b → BindingHolds w.opaque (Among w arguments) w.slots ch (plain_binding w.tree b) →
       Keeps (Held w n) (meet_argument w.constants arguments b)
   positive_keeps (Positive slot a) ch i h = keeps_meet w n slot i.0 small (value_at arguments a) record { tidy = tidy a i.1; formed = formed a i.1; lies = h }
   positive_keeps (Assign slot e) ch i h = keeps_pure
@@ -242,7 +242,7 @@ module _ (w : Scene) (expressions n width : ℕ) (arguments : List ℕ) (count :
   -- ---- values for a slot
 
   slot_number : (slot : ℕ) (z : ℤ) → w.slots slot ≡ number z → Number z
-  slot_number slot z e = subst Proper e (w.proper slot)
+  slot_number slot z e = subst ProperKey e (w.proper slot)
 
   numeric_good : (slot : ℕ) (j : Interval) (z : ℤ) → w.slots slot ≡ number z → ProperEnds j → cousot j ∋ z → Good w slot (numeric j)
   numeric_good slot j z e p h = record {
@@ -300,7 +300,7 @@ module _ (w : Scene) (expressions n width : ℕ) (arguments : List ℕ) (count :
         (λ v t p. (keeps_owned w n slot l small v p.0).at t p.1) (λ _ _ _. tt);
   }
 
-  binding_keeps : (b : Binding) (ch : Choice) → ProperChoice ch → BindingIn count here b → BindingHolds w.opaque (Among w arguments) w.slots ch (binding_of w.tree b) →
+  binding_keeps : (b : Binding) (ch : Choice) → ProperChoice ch → BindingIn count here b → BindingHolds w.opaque (Among w arguments) w.slots ch (plain_binding w.tree b) →
       Keeps (Held w n) (meet_binding over b)
   binding_keeps (Positive slot a) ch pch i h = keeps_pure
   binding_keeps (Assign slot e) ch pch i h = meeting_keeps slot i.0 (λ rows. assigned over rows e) (assign_good slot e (into 0 ch) (proper_into 0 pch) i.1 h)
@@ -311,15 +311,15 @@ module _ (w : Scene) (expressions n width : ℕ) (arguments : List ℕ) (count :
   -- ---- all of them
 
   -- what the choices of each say of each
-  choices_all : (P : Binding → Type 0) → ((b : Binding) (ch : Choice) → ProperChoice ch → BindingIn count here b → BindingHolds w.opaque (Among w arguments) w.slots ch (binding_of w.tree b) → P b) →
-      (bs : List Binding) (ch : Choice) → ProperChoice ch → All (BindingIn count here) bs → AllHold (BindingHolds w.opaque (Among w arguments) w.slots) ch (map (binding_of w.tree) bs) → All P bs
+  choices_all : (P : Binding → Type 0) → ((b : Binding) (ch : Choice) → ProperChoice ch → BindingIn count here b → BindingHolds w.opaque (Among w arguments) w.slots ch (plain_binding w.tree b) → P b) →
+      (bs : List Binding) (ch : Choice) → ProperChoice ch → All (BindingIn count here) bs → AllHold (BindingHolds w.opaque (Among w arguments) w.slots) ch (map (plain_binding w.tree) bs) → All P bs
   choices_all P f [] ch pch i h = tt
   choices_all P f (b ∷ bs) ch pch i h = (f b (into 0 ch) (proper_into 0 pch) i.0 h.0, choices_all P f bs (into 1 ch) (proper_into 1 pch) i.1 h.1)
 
   module _ (bs : List Binding) (ch : Choice) (pch : ProperChoice ch) (inside : All (BindingIn count here) bs)
-      (holds : AllHold (BindingHolds w.opaque (Among w arguments) w.slots) ch (map (binding_of w.tree) bs)) where
-    passes_keep : Keeps (Held w n) (passes over arguments bs)
-    unfolding passes
+      (holds : AllHold (BindingHolds w.opaque (Among w arguments) w.slots) ch (map (plain_binding w.tree) bs)) where
+    passes_keep : Keeps (Held w n) (three_passes over arguments bs)
+    unfolding three_passes
     passes_keep =
         keeps_then
         (keeps_each (meet_argument w.constants arguments) bs (choices_all (λ b. Keeps (Held w n) (meet_argument w.constants arguments b)) (λ b c _. positive_keeps b c) bs ch pch inside holds))
@@ -330,7 +330,7 @@ module _ (w : Scene) (expressions n width : ℕ) (arguments : List ℕ) (count :
     pub bind_sound : (s : Slots) → value_row * n ≤ length s.rows → Ends (λ _ t. Held w n t.rows) (λ _ _. Unit {0}) (bindings.bind over arguments n bs s)
     unfolding bindings.bind
     bind_sound s room =
-        ends_then {P = λ _ t. Held w n t.rows} {Q = λ _ _. Unit {0}} (tops 0 n) (holding_rows n (passes over arguments bs)) s
+        ends_then {P = λ _ t. Held w n t.rows} {Q = λ _ _. Unit {0}} (tops 0 n) (holding_rows n (three_passes over arguments bs)) s
         (subst (λ (i : ℕ). Ends (λ _ t. Held w i t.rows) (λ _ _. Unit {0}) (tops 0 n s)) (omega arith)
         (tops_held w 0 n s record { room = omega arith; good = λ i l. absurd (omega arith) } (omega arith)))
         (λ _ t h. (keeps_holding n passes_keep).at t h) (λ _ _ _. tt)

@@ -34,18 +34,18 @@ module _ (t : Tables) (shut : open? t.header ≡ false) where
       (ends_test (eqb (length t.predicates) size.predicate_cells) (λ _. ends_test (open? t.header) (λ h. absurd (never h)) (λ _. stops refl)) (λ _. stops refl)) (λ _ _ h. h) (λ _ u h. ap (λ s. with_header s t) h)
   closed_idle (constant k) =
       on_ends_lem for_constant from_constant id (constant_call k) t
-      (ends_test (constants.sizes (length t.names) (length t.constants) (length t.order) (length t.thresholds))
+      (ends_test (constants.sized (length t.names) (length t.constants) (length t.order) (length t.thresholds))
       (λ _. ends_test (leb (length (bytes_of k)) 64) (λ _. ends_test (open? t.header) (λ h. absurd (never h)) (λ _. stops refl)) (λ _. stops refl)) (λ _. stops refl)) (λ _ _ h. h) (λ _ u h. ap (λ s. from_constant s t) h)
   closed_idle (expression e) =
       on_ends_lem for_expression from_expression id (expression_call e) t
       (ends_test (eqb (length t.nodes) size.node_cells) (λ _. ends_test (supported e) (λ _. ends_test (open? t.header) (λ h. absurd (never h)) (λ _. stops refl)) (λ _. stops refl)) (λ _. stops refl)) (λ _ _ h. h) (λ _ u h. ap (λ s. from_expression s t) h)
   closed_idle (seed_value a k) =
       on_ends_lem for_value from_value (λ _. done) (seed_value_call t.constants a k) t
-      (ends_test (eqb (length t.constants) size.constant_cells && seeds.sizes (length t.seeds) (length t.records)) (λ _. ends_test (open? t.header) (λ h. absurd (never h)) (λ _. stops refl)) (λ _. stops refl)) (λ _ _ h. h) (λ _ u h. ap (λ s. from_value s t) h)
+      (ends_test (eqb (length t.constants) size.constant_cells && seeds.sized (length t.seeds) (length t.records)) (λ _. ends_test (open? t.header) (λ h. absurd (never h)) (λ _. stops refl)) (λ _. stops refl)) (λ _ _ h. h) (λ _ u h. ap (λ s. from_value s t) h)
   closed_idle (seed_interval a low high) =
       on_ends_lem for_interval from_interval (λ _. done) (seed_interval_call a low high) t
-      (ends_test (eqb (length t.thresholds) size.thresholds && seeds.sizes (length t.seeds) (length t.records)) (λ _. ends_test (open? t.header) (λ h. absurd (never h)) (λ _. stops refl)) (λ _. stops refl)) (λ _ _ h. h) (λ _ u h. ap (λ s. from_interval s t) h)
+      (ends_test (eqb (length t.thresholds) size.thresholds && seeds.sized (length t.seeds) (length t.records)) (λ _. ends_test (open? t.header) (λ h. absurd (never h)) (λ _. stops refl)) (λ _. stops refl)) (λ _ _ h. h) (λ _ u h. ap (λ s. from_interval s t) h)
   closed_idle (rule r) =
       on_ends_lem for_rule from_rule id (rule_call t.nodes r) t
-      (ends_test (producers.sizes (length t.nodes) (length t.rules) (length t.records)) (λ _. ends_test (shapely r) (λ _. ends_test (open? t.header) (λ h. absurd (never h)) (λ _. stops refl)) (λ _. stops refl)) (λ _. stops refl)) (λ _ _ h. h)
+      (ends_test (producers.sized (length t.nodes) (length t.rules) (length t.records)) (λ _. ends_test (shapely r) (λ _. ends_test (open? t.header) (λ h. absurd (never h)) (λ _. stops refl)) (λ _. stops refl)) (λ _. stops refl)) (λ _ _ h. h)
       (λ _ u h. ap (λ s. from_rule s t) h)

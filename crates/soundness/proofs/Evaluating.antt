@@ -37,7 +37,7 @@ use Rattle.lattice.specs.Lattice.{numeric, constant, copied, refine}
 use Rattle.lattice.proofs.Members.{InBound}
 use Rattle.lattice.proofs.Tidiness.{Tidy, numeric_tidy, constant_tidy, copied_tidy, refine_tidy}
 use Rattle.rows.specs.Row.{id_of, entries_of, value_at}
-use Rattle.rows.specs.WellFormed.{WellFormed, Proper as ProperEnds}
+use Rattle.rows.specs.WellFormed.{WellFormed, ProperKey as ProperEnds}
 use Rattle.rows.proofs.Formed.{numeric_formed, top_formed, constant_formed, copied_formed, refine_formed}
 use Rattle.keys.specs.Key.{Key, number, name}
 use Rattle.nodes.specs.declared.UnaryOp.{UnaryOp}
@@ -51,10 +51,10 @@ use Rattle.producers.specs.Producer.{Scope, scope}
 use Rattle.producers.proofs.Scoped.{Scoped, in_constant, in_slot, in_unary, in_absolute, in_binary, in_unknown}
 use Rattle.refinements.specs.Refinement.{Refinement, integer?, narrow, restrict}
 use Rattle.operators.proofs.Formed.{unary_proper, absolute_proper, binary_proper}
-use Rattle.operators.specs.Arithmetic.{empty?, range_of, interval_of, negated, unary_of, absolute_of, operated, binary_of, difference?}
+use Rattle.operators.specs.Arithmetic.{empty?, range_of, interval_from, negated, unary_of, absolute_of, operated, binary_of, difference?}
 use Rattle.operators.specs.Literal.{covered}
 use Rattle.evaluation.specs.Evaluation.{Input, known_node, known_in, known_identity, identical, combined, after_one, after_two, unknown, evaluate_node, evaluate_in, expression}
-use Rattle.soundness.specs.Plain.{Tree, Opaque, Choice, into, chosen, magnitude, apply_one, apply_two, worth, Proper}
+use Rattle.soundness.specs.Plain.{Tree, Opaque, Choice, into, chosen, magnitude, apply_one, apply_two, worth, ProperKey}
 use Rattle.soundness.specs.Plain as plain
 use Rattle.soundness.specs.Tied.{key_tree, tree_of}
 use Rattle.soundness.proofs.Lies.{Lies, top_lies, numeric_lies, copied_lies, refine_lies, constant_lies}
@@ -67,7 +67,7 @@ within Bottom n h = absurd h
 within (Bounded low high) n h = checked_encloses low high n h
 within Unbounded n h = tt
 
-encloses_in : (r : std.Option Range) (z : ℤ) → Encloses r z → cousot (interval_of r) ∋ z
+encloses_in : (r : std.Option Range) (z : ℤ) → Encloses r z → cousot (interval_from r) ∋ z
 encloses_in (std.Some a) z h = h
 encloses_in std.None z h = (tt, tt)
 
@@ -373,13 +373,13 @@ module _ (w : Scene) (small : All (λ k. k < 2 ^ 32) w.constants) (expressions n
     covers = record { at = λ ch pch k e. go (ch []) k (pch.at []) e };
   }
     where
-      go : (c k : Key) → Proper c → chosen true c ≡ some k → Lies w.key w.constants (unknown true reason) k
+      go : (c k : Key) → ProperKey c → chosen true c ≡ some k → Lies w.key w.constants (unknown true reason) k
       go (number z) k p e = subst (Lies w.key w.constants (unknown true reason)) (some_is e) record { bound = (tt, tt); list = tt }
       go (name s) k p e = absurd (none_some e)
   unknown_sound false reason = record {
     tidy = record { sorted = tt; small = tt };
     formed = top_formed (Some reason);
-    covers = record { at = λ ch pch k e. top_lies w.key w.constants (Some reason) k (subst Proper (some_is e) (pch.at [])) };
+    covers = record { at = λ ch pch k e. top_lies w.key w.constants (Some reason) k (subst ProperKey (some_is e) (pch.at [])) };
   }
 
   one_sound : (e : ℕ) (f : Interval → Interval) (t : Tree) → ((x : Interval) → ProperEnds (f x)) →

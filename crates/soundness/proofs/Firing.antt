@@ -22,7 +22,7 @@ use Rattle.guards.specs.Guards.{local}
 use Rattle.guards.specs.Guards as guards
 use Rattle.transfer.specs.Transfer.{Frame, in_domains, guarding, rule, head}
 use Rattle.soundness.specs.Plain.{Choice, into, BindingHolds, GuardHolds, AllHold}
-use Rattle.soundness.specs.Tied.{binding_of, guard_of}
+use Rattle.soundness.specs.Tied.{plain_binding, plain_guard}
 use Rattle.soundness.proofs.Worth.{Scene, ProperChoice, proper_into}
 use Rattle.soundness.proofs.Evaluating.{Sound, expression_sound}
 use Rattle.soundness.proofs.Binding.{Held, held_slots, Among, bind_sound}
@@ -47,8 +47,8 @@ module _ (w : Scene) (expressions count width : ℕ) (arguments : List ℕ) (t :
 
   module _ (rules : List ℕ) (id : ℕ) (ch : Choice) (pch : ProperChoice ch) (in_bindings : All (BindingIn count (scope w.nodes expressions (slots_at rules id))) (bindings_at rules id))
       (in_guards : All (GuardIn (scope w.nodes expressions (slots_at rules id))) (guards_at rules id))
-      (bind : AllHold (BindingHolds w.opaque (Among w arguments) w.slots) (into 0 ch) (map (binding_of w.tree) (bindings_at rules id)))
-      (guard : AllHold (GuardHolds w.opaque w.slots) (into 1 ch) (map (guard_of w.tree) (guards_at rules id))) where
+      (bind : AllHold (BindingHolds w.opaque (Among w arguments) w.slots) (into 0 ch) (map (plain_binding w.tree) (bindings_at rules id)))
+      (guard : AllHold (GuardHolds w.opaque w.slots) (into 1 ch) (map (plain_guard w.tree) (guards_at rules id))) where
     -- a rule keeps every firing that satisfies it
     pub rule_sound : (s : Frame) → value_row * slots_at rules id ≤ length s.domains → value_row * slots_at rules id ≤ length s.produced →
         Ends (λ k u. Fired w (slots_at rules id) k u) (λ _ _. Unit {0}) (rule over rules id arguments s)

@@ -21,13 +21,13 @@ use Rattle.slots.specs.Slots.{Slots, total, copies}
 use Rattle.slots.proofs.Live.{Formed, Held, copies_ends}
 use Rattle.rounds.specs.Round.{Given, given, Standing, apply, image}
 use Rattle.rounds.proofs.Brings.{Brings, rows_of, Stands, rules_keep, rules_hit}
-use Rattle.rounds.proofs.Copied.{Same, copies_same}
+use Rattle.slots.proofs.Copied.{Same, copies_same}
 use Rattle.rounds.proofs.Live.{Room, apply_keeps, image_brings, image_live}
 use Rattle.input.specs.Input.{Tables}
 use Rattle.input.proofs.Reached.{Reached}
-use Rattle.soundness.specs.Plain.{GuardHolds, Opaque, State, Choice, into, Proper, PlainBinding, positive, assign, range, aggregate, BindingHolds, AllHold, Fires, HeadsGive}
-use Rattle.soundness.specs.Tied.{binding_of, guard_of, head_of, Constants, Trees}
-use Rattle.soundness.specs.Run.{Accepted, PlainRule, key_of, tree_at, Seeded, Firing, Produces}
+use Rattle.soundness.specs.Plain.{GuardHolds, Opaque, PlainState, Choice, into, ProperKey, PlainBinding, positive, assign, range, aggregate, BindingHolds, AllHold, Fires, HeadsGive}
+use Rattle.soundness.specs.Tied.{plain_binding, plain_guard, plain_head, Constants, Trees}
+use Rattle.soundness.specs.Run.{Accepted, PlainRule, key_for, tree_at, Seeded, Firing, Produces}
 use Rattle.soundness.proofs.Lies.{Lies}
 use Rattle.soundness.proofs.Worth.{worth_proper, proper_into}
 use Rattle.soundness.proofs.Binding.{Among}
@@ -40,32 +40,32 @@ use Rattle.soundness.proofs.Round.{over, stored_fit, Has, apply_has, Hit, hit, a
 pub record Stored (p : Accepted) (t : Tables) (r : PlainRule) : Type 0 where
   pub id : ℕ
   pub below : id < t.header.counts.rules
-  pub bindings : r.bindings ≡ map (binding_of (tree_at p)) (bindings_at t.rules id)
-  pub guards : r.guards ≡ map (guard_of (tree_at p)) (guards_at t.rules id)
-  pub heads : r.heads ≡ map (head_of (tree_at p)) (heads_at t.rules id)
+  pub bindings : r.bindings ≡ map (plain_binding (tree_at p)) (bindings_at t.rules id)
+  pub guards : r.guards ≡ map (plain_guard (tree_at p)) (guards_at t.rules id)
+  pub heads : r.heads ≡ map (plain_head (tree_at p)) (heads_at t.rules id)
 
 -- a key that lies in an argument's value
 pub record Inside (p : Accepted) (t : Tables) (values : List ℕ) (a : ℕ) (k : Key) : Type 0 where
   pub below : a < t.header.counts.positions
-  pub proper : Proper k
-  pub lies : Lies (key_of p) t.constants (value_at values a) k
+  pub proper : ProperKey k
+  pub lies : Lies (key_for p) t.constants (value_at values a) k
 
 pub record Grounded (p : Accepted) (t : Tables) : Type 0 where
   pub reached : Reached t
   pub cells : All (λ c. c < 2 ^ 32) t.constants
-  pub keys : Constants (key_of p) t.constants
-  pub trees : Trees (key_of p) (tree_at p) t.nodes
+  pub keys : Constants (key_for p) t.constants
+  pub trees : Trees (key_for p) (tree_at p) t.nodes
   pub rules : (r : PlainRule) → Memᴰ r p.rules → Stored p t r
   pub seeds : (a : ℕ) (k : Key) → Seeded p a k → Inside p t t.seeds a k
 
 -- ---- one step of the plain run
 
-pub data Stepped (o : Opaque) (p : Accepted) (s : State) (a : ℕ) (k : Key) : Type 0 where
+pub data Stepped (o : Opaque) (p : Accepted) (s : PlainState) (a : ℕ) (k : Key) : Type 0 where
   seeded : Seeded p a k → Stepped o p s a k
   produced : (f : Firing) → Produces o p s f a k → Stepped o p s a k
 
 -- more values fire as much
-module _ (o : Opaque) (s u : State) (more : (a : ℕ) (k : Key) → s a k → u a k) (x : ℕ → Key) where
+module _ (o : Opaque) (s u : PlainState) (more : (a : ℕ) (k : Key) → s a k → u a k) (x : ℕ → Key) where
   binding_on : (ch : Choice) (b : PlainBinding) → BindingHolds o s x ch b → BindingHolds o u x ch b
   binding_on ch (positive i a) h = more a (x i) h
   binding_on ch (assign i e) h = h
@@ -76,14 +76,14 @@ module _ (o : Opaque) (s u : State) (more : (a : ℕ) (k : Key) → s a k → u 
   bindings_on ch [] h = tt
   bindings_on ch (b ∷ bs) h = (binding_on (into 0 ch) b h.0, bindings_on (into 1 ch) bs h.1)
 
-pub fires_on : (o : Opaque) (s u : State) → ((a : ℕ) (k : Key) → s a k → u a k) → (p : Accepted) (f : Firing) (a : ℕ) (k : Key) → Produces o p s f a k → Produces o p u f a k
+pub fires_on : (o : Opaque) (s u : PlainState) → ((a : ℕ) (k : Key) → s a k → u a k) → (p : Accepted) (f : Firing) (a : ℕ) (k : Key) → Produces o p s f a k → Produces o p u f a k
 fires_on o s u more p f a k h = record {
   among = h.among;
   fires = record { bindings = bindings_on o s u more f.choices.slots (into 0 f.choices.choice) f.rule.bindings h.fires.bindings; guards = h.fires.guards };
   gives = h.gives;
 }
 
-pub stepped_on : (o : Opaque) (s u : State) → ((a : ℕ) (k : Key) → s a k → u a k) → (p : Accepted) (a : ℕ) (k : Key) → Stepped o p s a k → Stepped o p u a k
+pub stepped_on : (o : Opaque) (s u : PlainState) → ((a : ℕ) (k : Key) → s a k → u a k) → (p : Accepted) (a : ℕ) (k : Key) → Stepped o p s a k → Stepped o p u a k
 stepped_on o s u more p a k (seeded h) = seeded h
 stepped_on o s u more p a k (produced f h) = produced f (fires_on o s u more p f a k h)
 
@@ -101,14 +101,14 @@ module _ {p : Accepted} {t : Tables} (g : Grounded p t) (o : Opaque) (values : L
   abbrev n : ℕ
   n = t.header.counts.positions
 
-  abbrev Among' : State
+  abbrev Among' : PlainState
   Among' a k = Inside p t values a k
 
   abbrev run : Given
   run = given (over t) t.rules t.header.counts.rules t.seeds n
 
   abbrev stage : Firing → Stage t
-  stage f = record { reached = g.reached; cells = g.cells; opaque = o; key = key_of p; tree = tree_at p; keys = g.keys; trees = g.trees; choices = f.choices }
+  stage f = record { reached = g.reached; cells = g.cells; opaque = o; key = key_for p; tree = tree_at p; keys = g.keys; trees = g.trees; choices = f.choices }
 
   valued : Valued t values
   valued = record { formed = λ a l. (room.1 a).formed; tidy = λ a l. (room.1 a).tidy }
@@ -118,7 +118,7 @@ module _ {p : Accepted} {t : Tables} (g : Grounded p t) (o : Opaque) (values : L
     stored : Stored p t f.rule
     stored = g.rules f.rule h.among
 
-    fires : Fires o (Among (scene_of (stage f)) values) f.choices (map (binding_of (tree_at p)) (bindings_at t.rules stored.id)) (map (guard_of (tree_at p)) (guards_at t.rules stored.id))
+    fires : Fires o (Among (scene_of (stage f)) values) f.choices (map (plain_binding (tree_at p)) (bindings_at t.rules stored.id)) (map (plain_guard (tree_at p)) (guards_at t.rules stored.id))
     fires =
         let e = fires_on o Among' (Among (scene_of (stage f)) values) (λ b z i. i.lies) p f a k h in
         record {
@@ -132,7 +132,7 @@ module _ {p : Accepted} {t : Tables} (g : Grounded p t) (o : Opaque) (values : L
         (subst (λ l. HeadsGive o f.choices.slots (into 2 f.choices.choice) l a k) stored.heads h.gives)
 
     -- it is one of the store's arguments, and the value has 32 bits
-    produced_inside : (a < n) × Proper k
+    produced_inside : (a < n) × ProperKey k
     produced_inside =
         let below : given_by.head.argument < n = member (heads_at t.rules stored.id) given_by.among (stored_fit t g.reached stored.id stored.below).heads in
         (subst (λ (i : ℕ). i < n) given_by.argument below, worth_proper (scene_of (stage f)) given_by.choice given_by.proper given_by.head.value k given_by.value)
@@ -142,13 +142,13 @@ module _ {p : Accepted} {t : Tables} (g : Grounded p t) (o : Opaque) (values : L
         member (y ∷ hs) (Memᴰ.head e) q = subst (λ (z : Head). z.argument < n) (sym e) q.0
         member (y ∷ hs) (Memᴰ.tail m) q = member hs m q.1
 
-  pub step_inside : (a : ℕ) (k : Key) → Stepped o p Among' a k → (a < n) × Proper k
+  pub step_inside : (a : ℕ) (k : Key) → Stepped o p Among' a k → (a < n) × ProperKey k
   step_inside a k (seeded h) = let i = g.seeds a k h in (i.below, i.proper)
   step_inside a k (produced f h) = produced_inside f a k h
 
   -- a rule keeps what lies in a row
-  keep : (a : ℕ) (k : Key) → a < n → Proper k → (id : ℕ) → id < t.header.counts.rules → Brings (rows_of n) (Has (key_of p) t.constants n a k) (Has (key_of p) t.constants n a k) (apply (over t) t.rules values id)
-  keep a k l q id b = apply_has t g.cells (key_of p) n a l k q values room.1 id (stored_fit t g.reached id b)
+  keep : (a : ℕ) (k : Key) → a < n → ProperKey k → (id : ℕ) → id < t.header.counts.rules → Brings (rows_of n) (Has (key_for p) t.constants n a k) (Has (key_for p) t.constants n a k) (apply (over t) t.rules values id)
+  keep a k l q id b = apply_has t g.cells (key_for p) n a l k q values room.1 id (stored_fit t g.reached id b)
 
   -- ---- from the copies of the seeds on
 
@@ -174,19 +174,19 @@ module _ {p : Accepted} {t : Tables} (g : Grounded p t) (o : Opaque) (values : L
 
     -- one step
     image_step : (a : ℕ) (k : Key) → Stepped o p Among' a k → (s : Standing) → value_row * n ≤ length s.rows → Formed s.rows → s.budget.statistics.entries ≡ e →
-        Ends (λ _ u. Stands (rows_of n) e u × Has (key_of p) t.constants n a k u.rows) (λ _ u. u.budget.statistics.entries ≡ e) (image run values s)
+        Ends (λ _ u. Stands (rows_of n) e u × Has (key_for p) t.constants n a k u.rows) (λ _ u. u.budget.statistics.entries ≡ e) (image run values s)
     image_step a k (seeded h) s r f q =
         let i = g.seeds a k h in
-        image_brings run values (Has (key_of p) t.constants n a k) (Has (key_of p) t.constants n a k) e
+        image_brings run values (Has (key_for p) t.constants n a k) (Has (key_for p) t.constants n a k) e
         (λ u r' f' q'. ends_as (copy_room u r' f' q') (λ _ w z. (z.0, record { room = z.1.0; lies = rw (z.1.1 a i.below) i.lies })) (λ _ w z. z))
-        (λ u x y. rules_keep t.rules (apply (over t) t.rules values) (rows_of n) (Has (key_of p) t.constants n a k) e 0 t.header.counts.rules (λ id l. keep a k i.below i.proper id (omega arith)) u x y) s r f q
+        (λ u x y. rules_keep t.rules (apply (over t) t.rules values) (rows_of n) (Has (key_for p) t.constants n a k) e 0 t.header.counts.rules (λ id l. keep a k i.below i.proper id (omega arith)) u x y) s r f q
     image_step a k (produced j h) s r f q =
         let w = produced_inside j a k h in
         let st = stored j a k h in
-        image_brings run values (Room n) (Has (key_of p) t.constants n a k) e
+        image_brings run values (Room n) (Has (key_for p) t.constants n a k) e
         (λ u r' f' q'. ends_as (copy_room u r' f' q') (λ _ z m. (m.0, m.1.0)) (λ _ z m. m))
         (λ u x y.
-        rules_hit t.rules (apply (over t) t.rules values) (rows_of n) (Room n) (Has (key_of p) t.constants n a k) e 0 t.header.counts.rules st.id (omega arith) (omega (arith, st.below))
+        rules_hit t.rules (apply (over t) t.rules values) (rows_of n) (Room n) (Has (key_for p) t.constants n a k) e 0 t.header.counts.rules st.id (omega arith) (omega (arith, st.below))
         (λ id l. apply_keeps (over t) g.cells n t.rules values room.1 id (stored_fit t g.reached id (omega arith)))
         (λ id l. keep a k w.0 w.1 id (omega arith))
         (apply_gives (stage j) values valued room.1 st.id st.below (fires j a k h) a w.0 k w.1 (given_by j a k h)) u x y) s r f q
@@ -196,7 +196,7 @@ module _ {p : Accepted} {t : Tables} (g : Grounded p t) (o : Opaque) (values : L
         Ends (λ _ u. Stands (rows_of n) e u × (Room n u.rows × ((a : ℕ) (k : Key) → Stepped o p Among' a k → Inside p t u.rows a k))) (λ _ u. u.budget.statistics.entries ≡ e) (image run values s)
     image_sound s r f q =
         ends_as
-        (ends_all (λ (i : (a : ℕ) × (k : Key) × Stepped o p Among' a k) _ u. Has (key_of p) t.constants n i.0 i.1 u.rows)
+        (ends_all (λ (i : (a : ℕ) × (k : Key) × Stepped o p Among' a k) _ u. Has (key_for p) t.constants n i.0 i.1 u.rows)
         (image_live run g.cells (λ id l. stored_fit t g.reached id l) seeds_good values room.1 e s r f q)
         (λ i. ends_as (image_step i.0 i.1 i.2 s r f q) (λ _ u z. z.1) (λ _ _ _. tt)))
         (λ _ u z. (z.0.0, (z.0.1, λ a k h. let w = step_inside a k h in record { below = w.0; proper = w.1; lies = (z.1 (a, k, h)).lies }))) (λ _ u z. z)

@@ -29,7 +29,7 @@ use Rattle.lattice.proofs.Copies.{copied_is}
 use Rattle.lattice.proofs.Tidiness.{refine_tidy}
 use Rattle.rows.specs.Row.{value_at, put}
 use Rattle.sizes.specs.Sizes.{value_row}
-use Rattle.rows.specs.WellFormed.{Proper as ProperEnds}
+use Rattle.rows.specs.WellFormed.{ProperKey as ProperEnds}
 use Rattle.rows.proofs.RowLaws.{length_put}
 use Rattle.rows.proofs.Formed.{refine_formed, proper_meet}
 use Rattle.keys.specs.Key.{Key, number}
@@ -53,8 +53,8 @@ use Rattle.guards.specs.Guards.{Local, paying, in_slots, in_notes, narrow_slot, 
 use Rattle.guards.specs.Guards as guards
 use Rattle.guards.proofs.Live.{restricted_proper, solved_proper}
 use Rattle.operators.proofs.Formed.{span_proper}
-use Rattle.soundness.specs.Plain.{Choice, into, worth, Proper, Within, Compared, GuardHolds, AllHold}
-use Rattle.soundness.specs.Tied.{guard_of}
+use Rattle.soundness.specs.Plain.{Choice, into, worth, ProperKey, Within, Compared, GuardHolds, AllHold}
+use Rattle.soundness.specs.Tied.{plain_guard}
 use Rattle.soundness.proofs.Lies.{Lies, refine_lies}
 use Rattle.soundness.proofs.Worth.{Scene, ProperChoice, proper_into, Worth, Fixed, fixed_worth, worth_proper}
 use Rattle.soundness.proofs.Evaluating.{Holds, Sound, integers, identity_sound}
@@ -154,10 +154,10 @@ module _ (w : Scene) (small : All (λ c. c < 2 ^ 32) w.constants) (n : ℕ) wher
       (both (refine_tidy w.constants v j g.tidy)
       (both (refine_formed w.constants small v j g.formed p)
       (subst (λ (x : Key). Ensures (λ u. Lies w.key w.constants u x) (refine w.constants v j)) (sym e)
-      (refine_lies w.key w.constants w.keys v g.tidy.sorted j k (subst Proper e (w.proper slot)) m (subst (Lies w.key w.constants v) e g.lies))))))
+      (refine_lies w.key w.constants w.keys v g.tidy.sorted j k (subst ProperKey e (w.proper slot)) m (subst (Lies w.key w.constants v) e g.lies))))))
 
   slot_number : (slot : ℕ) (k : ℤ) → w.slots slot ≡ number k → Number k
-  slot_number slot k e = subst Proper e (w.proper slot)
+  slot_number slot k e = subst ProperKey e (w.proper slot)
 
   narrow_keeps : (affine : std.Option Affine) (x : Interval) (z : ℤ) → Number z → cousot x ∋ z → Means w n affine z → Keeps (Held w n) (narrow_slot w.constants affine x)
   narrow_keeps std.None x z f h m = keeps_pure
@@ -329,7 +329,7 @@ module _ (w : Scene) (small : All (λ c. c < 2 ^ 32) w.constants) (expressions n
         worked : Ensures (λ p. Sound w left p.first × Sound w right p.second) (evaluation.both over s.produced (refinements_of s.refinements k) left right)
         worked = both_sound w small expressions n width left right sl sr s.produced (held_slots g.held) (refinements_of s.refinements k) (known_all g.known)
 
-    guard_one_lem : (k : ℕ) (g : Guard) (ch : Choice) → ProperChoice ch → GuardIn here g → GuardHolds w.opaque w.slots ch (guard_of w.tree g) → (s : Local) → Fits w n k s → Fitting w n (guard_one over k g) s
+    guard_one_lem : (k : ℕ) (g : Guard) (ch : Choice) → ProperChoice ch → GuardIn here g → GuardHolds w.opaque w.slots ch (plain_guard w.tree g) → (s : Local) → Fits w n k s → Fitting w n (guard_one over k g) s
     guard_one_lem k (Compare left relation right) ch pch i h s f =
         with_both_lem k left right i.0 i.1 (compared w.nodes w.constants k left relation right)
         (λ a b sa sb. compared_sound k left right relation a b i.0 i.1 sa sb ch pch h) s f
@@ -337,14 +337,14 @@ module _ (w : Scene) (small : All (λ c. c < 2 ^ 32) w.constants) (expressions n
         with_both_lem k low high i.1.0 i.1.1 (member w.constants k slot) (λ a b sa sb. member_sound k slot low high a b i.0 sa sb ch pch h) s f
 
     -- each guard keeps every firing that satisfies it
-    pub guard_sound : (k : ℕ) (g : Guard) (ch : Choice) → ProperChoice ch → GuardIn here g → GuardHolds w.opaque w.slots ch (guard_of w.tree g) → (s : Local) → Fits w n k s → Fitting w n (guard_step over k g) s
+    pub guard_sound : (k : ℕ) (g : Guard) (ch : Choice) → ProperChoice ch → GuardIn here g → GuardHolds w.opaque w.slots ch (plain_guard w.tree g) → (s : Local) → Fits w n k s → Fitting w n (guard_step over k g) s
     unfolding guard_step
     guard_sound k g ch pch i h s f =
         ends_then {P = λ _ t. Fits w n k t} {Q = λ _ _. Unit {0}} (paying (work 1)) (guard_one over k g) s
         (ends_through _ _ _ _ {P = λ _ _. Unit {0}} {Q = λ _ _. Unit {0}} (work 1) s (in_some_way (work 1 s.meter)) (λ _ _ _. record { held = f.held; known = f.known }) (λ _ _ _. tt))
         (λ _ t q. guard_one_lem k g ch pch i h t q) (λ _ _ _. tt)
 
-    guards_sound : (gs : List Guard) (k : ℕ) (ch : Choice) → ProperChoice ch → All (GuardIn here) gs → AllHold (GuardHolds w.opaque w.slots) ch (map (guard_of w.tree) gs) →
+    guards_sound : (gs : List Guard) (k : ℕ) (ch : Choice) → ProperChoice ch → All (GuardIn here) gs → AllHold (GuardHolds w.opaque w.slots) ch (map (plain_guard w.tree) gs) →
         (s : Local) → Fits w n k s → Fitting w n (fold_m (guard_step over) k gs) s
     unfolding fold_m
     guards_sound [] k ch pch i h s f = ends_pure k s f
@@ -378,7 +378,7 @@ copies_held w domains m k (suc n) l d s h r =
 -- ---- all guards
 
 module _ (w : Scene) (small : All (λ c. c < 2 ^ 32) w.constants) (expressions n width : ℕ) (few : expressions ≤ 2 ^ 32) (domains : List ℕ) (gs : List Guard) (ch : Choice) (pch : ProperChoice ch)
-    (inside : All (GuardIn (scope w.nodes expressions n)) gs) (holds : AllHold (GuardHolds w.opaque w.slots) ch (map (guard_of w.tree) gs)) where
+    (inside : All (GuardIn (scope w.nodes expressions n)) gs) (holds : AllHold (GuardHolds w.opaque w.slots) ch (map (plain_guard w.tree) gs)) where
   -- a firing whose guards hold stays inside the slots' values after guards
   pub guards_keep : (s : Local) → Held w n domains → value_row * n ≤ length s.produced →
       Fitting w n (guards.guard (record { nodes = w.nodes; constants = w.constants; width = width }) domains n gs) s

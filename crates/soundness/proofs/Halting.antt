@@ -41,12 +41,12 @@ use Rattle.transfer.specs.Transfer.{Frame}
 use Rattle.widening.specs.declared.Growth.{Growth}
 use Rattle.widening.specs.Widening.{nearest, below, above, widen_low, widen_high, widen_ends, widen, growth_at}
 use Rattle.widening.specs.Widening as widening
-use Rattle.rounds.specs.Locals.{Locals, fill, locals_of, local, with_locals}
+use Rattle.rounds.specs.Locals.{Locals, fill, locals_of, own_locals, with_locals}
 use Rattle.rounds.specs.Locals as locals
 use Rattle.rounds.specs.Round.{Given, Standing, standing, each_rule, join_owned, join_head, apply, produce, image, blank, candidates_of, candidates}
-use Rattle.passes.specs.Step.{Grown, within, compared, widen_value, grow, Steps, steps, stepped, step, advance}
+use Rattle.passes.specs.Step.{Grown, within, with_change, widen_value, grow, Steps, steps, advanced, advance_one, advance}
 use Rattle.passes.specs.Pass.{Ascent, replaced, renew, pass, passes, ascend}
-use Rattle.results.specs.Result.{keep, keep_both, bound, close, last_round, closing, last}
+use Rattle.results.specs.Result.{keep_bounds, keep_both, bound, close, last_round, closing, last}
 use Rattle.engine.specs.Run.{Beginning, enter_ends, seeded, begin, Progress, ascend_and_end, finish}
 use Rattle.engine.specs.Call.{Read, read, Tables, tables, concluded, finished, ran_on, run_call}
 use Rattle.input.specs.Input.{Call, Reply, Typed, call, left, played}
@@ -81,9 +81,9 @@ locals_halt (completes h) = completes tt
 locals_halt (stops h) = stops h
 
 module _ (i : Input) (rules : List ℕ) (id : ℕ) (arguments : List ℕ) where
-  local_halts : Frugal (local i rules id arguments)
-  unfolding local fill
-  local_halts = record { at = λ m. locals_halt ((halts_then (halts_through _ _ _ (works 1)) (rule_halts i rules id arguments)).at (locals.blank m)) }
+  local_halts : Frugal (own_locals i rules id arguments)
+  unfolding own_locals fill
+  local_halts = record { at = λ m. locals_halt ((halts_then (halts_through _ _ _ (works 1)) (rule_halts i rules id arguments)).at (locals.blank_frame m)) }
 
   with_locals_lem : {m : Locals → Metered Stop Slots (Unit {0})} → ((l : Locals) → Frugal (m l)) → Frugal (with_locals i rules id arguments m)
   unfolding with_locals
@@ -128,7 +128,7 @@ unfolding nearest
 nearest_halts beyond end [] = halts_pure end
 nearest_halts beyond end (t ∷ l) = halts_then (works 1) (halts_test (beyond t) (halts_pure t) (nearest_halts beyond end l))
 
-side_halts : (stays : Bool) (end : ℤ) (grown : ℕ) {search : Metered Stop Meter ℤ} → Frugal search → Frugal (widening.grow stays end grown search)
+side_halts : (stays : Bool) (end : ℤ) (grown : ℕ) {search : Metered Stop Meter ℤ} → Frugal search → Frugal (widening.grow_side stays end grown search)
 side_halts stays end grown h = halts_test stays (halts_pure _) (halts_test (ltb grown 2) (halts_pure _) (halts_bind h (λ z. halts_pure _)))
 
 widen_halts : (thresholds : List ℤ) (previous next : Interval) (g : Growth) → Frugal (widen thresholds previous next g)
@@ -143,7 +143,7 @@ widen_halts thresholds previous next g = go (endpoints_of previous) (endpoints_o
         (λ l. halts_bind (side_halts (le_z d b) d g.high (nearest_halts (λ t. le_z d t) d thresholds)) (λ h. halts_pure _))
 
 grow_halts : (width : ℕ) (thresholds : List ℤ) (old candidate : Value) (g : Growth) → Frugal (grow width thresholds old candidate g)
-unfolding grow widen_value compared
+unfolding grow widen_value with_change
 grow_halts width thresholds old candidate g =
     halts_then (works 1)
     (halts_bind (join_halts width old candidate)
@@ -153,12 +153,12 @@ grow_halts width thresholds old candidate g =
 
 -- ---- passes
 
-stepped_halts : (k : ℕ) (old : Value) (s : Steps) {x : Run Stop Meter Grown} → Halted Spends x → Halted Spends (stepped k old s x)
+stepped_halts : (k : ℕ) (old : Value) (s : Steps) {x : Run Stop Meter Grown} → Halted Spends x → Halted Spends (advanced k old s x)
 stepped_halts k old s (completes h) = completes tt
 stepped_halts k old s (stops h) = stops h
 
 advance_halts : (thresholds : List ℤ) (current candidates : List ℕ) (k n : ℕ) (changed : Bool) → Frugal (advance thresholds current candidates k n changed)
-unfolding advance step
+unfolding advance advance_one
 advance_halts thresholds current candidates k zero changed = halts_pure changed
 advance_halts thresholds current candidates k (suc n) changed =
     halts_bind
@@ -194,8 +194,8 @@ module _ (g : Given) (thresholds : List ℤ) where
 
 -- ---- the end of a run
 
-keep_halts : (rows : List ℕ) (id : ℕ) (after : Bool) (k n : ℕ) → Frugal (keep rows id after k n)
-unfolding keep
+keep_halts : (rows : List ℕ) (id : ℕ) (after : Bool) (k n : ℕ) → Frugal (keep_bounds rows id after k n)
+unfolding keep_bounds
 keep_halts rows id after k zero = halts_pure tt
 keep_halts rows id after k (suc n) = halts_then (step_halts record { at = λ _. completes tt }) (keep_halts rows id after (k + 1) n)
 

@@ -44,12 +44,12 @@ use Rattle.rules.specs.declared.Relation.{Relation}
 use Rattle.rules.specs.declared.Guard.{Guard}
 use Rattle.rules.specs.declared.Guard.TheVariants.{Compare, Membership}
 use Rattle.rules.specs.Read.{slots_at, bindings_at, guards_at}
-use Rattle.slots.specs.Slots.{Slots, settled, replace, meet_into, meet_owned, refine_into, step, each, tops, meet_argument, mark_dependent, copies}
+use Rattle.slots.specs.Slots.{Slots, settled, replace, meet_into, meet_owned, refine_into, after_unit, each, tops, meet_argument, mark_dependent, copies}
 use Rattle.sizes.specs.Sizes.{refinement_row}
 use Rattle.refinements.specs.Refinement.{Refinement, refinements_of, integer?, narrow, restrict, position, noted, note}
 use Rattle.operators.specs.Arithmetic.{empty?, difference?}
 use Rattle.evaluation.specs.Evaluation.{Input, known_node, known_in, known_identity, combined, after_one, after_two, evaluate_node, evaluate_in, expression, Values, both}
-use Rattle.bindings.specs.Bindings.{assigned, aggregate, spanning, ranged, meeting, meet_binding, passes, bind}
+use Rattle.bindings.specs.Bindings.{assigned, aggregate, spanning, ranged, meeting, meet_binding, three_passes, bind}
 use Rattle.affine.specs.declared.Affine.{Affine}
 use Rattle.std.specs.Prelude as std
 use Rattle.affine.specs.Affine.{affine}
@@ -357,7 +357,7 @@ meet_owned_lem constants slot v = halts_through _ _ _ (meet_into_lem constants s
 refine_into_lem : (constants : List ℕ) (slot : ℕ) (i : Interval) → Frugal (refine_into constants slot i)
 refine_into_lem constants slot i = replace_halts slot (λ old. refine_halts constants old i)
 
-pub step_halts : {m : Metered Stop Slots (Unit {0})} → Frugal m → Frugal (step m)
+pub step_halts : {m : Metered Stop Slots (Unit {0})} → Frugal m → Frugal (after_unit m)
 step_halts h = halts_then (halts_through _ _ _ (works 1)) h
 
 pub each_halts : {A : Type 0} {f : A → Metered Stop Slots (Unit {0})} → ((a : A) → Frugal (f a)) → (l : List A) → Frugal (each f l)
@@ -406,7 +406,7 @@ binding_halts i (Range slot low high) = meeting_halts i.constants slot (λ rows.
 binding_halts i (Aggregate slot function) = meet_owned_lem i.constants slot (aggregate function)
 
 bindings_halt : (i : Input) (arguments : List ℕ) (n : ℕ) (bs : List Binding) → Frugal (bind i arguments n bs)
-unfolding bind passes
+unfolding bind three_passes
 bindings_halt i arguments n bs =
     halts_then (tops_halts 0 n)
     (halts_through _ _ _ (halts_then (each_halts (argument_halts i.constants arguments) bs) (halts_then (each_halts dependent_halts bs) (each_halts (binding_halts i) bs))))

@@ -23,14 +23,14 @@ use Rattle.lattice.proofs.Members.{InBound, Listed, In, Keyed}
 use Rattle.lattice.proofs.Members as members
 use Rattle.keys.specs.Key.{Key, name}
 use Rattle.keys.specs.Key as keys
-use Rattle.soundness.specs.Plain.{Proper}
+use Rattle.soundness.specs.Plain.{ProperKey}
 use Rattle.soundness.specs.Tied.{Constants}
 
 -- ---- keys whose numbers have 32 bits
 
 pub record Value32 : Type 0 where
   pub key : Key
-  pub proper : Proper key
+  pub proper : ProperKey key
 
 abbrev pub number_of : Key → Option ℤ
 number_of (keys.number z) = some z
@@ -39,7 +39,7 @@ number_of (name s) = none
 abbrev pub num : Value32 → Option ℤ
 num k = number_of k.key
 
-abbrev pub with_proper : (k : Key) → Proper k → Value32
+abbrev pub with_proper : (k : Key) → ProperKey k → Value32
 with_proper k p = record { key = k; proper = p }
 
 -- the constant i stands for k, and is retained
@@ -56,23 +56,23 @@ module _ (key : ℕ → Option Key) (cells : List ℕ) where
   abbrev pub Stands : ℕ → Value32 → Type 0
   Stands i k = Kept key cells i k.key
 
-  listed_in : (k : Key) (p : Proper k) (o : Option (List ℕ)) → Listed (Kept key cells) k o → Listed Stands (with_proper k p) o
+  listed_in : (k : Key) (p : ProperKey k) (o : Option (List ℕ)) → Listed (Kept key cells) k o → Listed Stands (with_proper k p) o
   listed_in k p none h = tt
   listed_in k p (some l) h = h
 
-  in_listed : (k : Key) (p : Proper k) (o : Option (List ℕ)) → Listed Stands (with_proper k p) o → Listed (Kept key cells) k o
+  in_listed : (k : Key) (p : ProperKey k) (o : Option (List ℕ)) → Listed Stands (with_proper k p) o → Listed (Kept key cells) k o
   in_listed k p none h = tt
   in_listed k p (some l) h = h
 
-  pub to_in : (k : Key) (p : Proper k) (v : Value) → Lies key cells v k → In num Stands v (with_proper k p)
+  pub to_in : (k : Key) (p : ProperKey k) (v : Value) → Lies key cells v k → In num Stands v (with_proper k p)
   to_in k p v h = record { bound = h.bound; list = listed_in k p v.values h.list }
 
-  pub from_in : (k : Key) (p : Proper k) (v : Value) → In num Stands v (with_proper k p) → Lies key cells v k
+  pub from_in : (k : Key) (p : ProperKey k) (v : Value) → In num Stands v (with_proper k p) → Lies key cells v k
   from_in k p v h = record { bound = h.bound; list = in_listed k p v.values h.list }
 
   -- ---- what needs no tie
 
-  pub top_lies : (reason : Reason) (k : Key) → Proper k → Lies key cells (top reason) k
+  pub top_lies : (reason : Reason) (k : Key) → ProperKey k → Lies key cells (top reason) k
   top_lies reason k p = from_in k p (top reason) (members.top_in num Stands reason (with_proper k p))
 
   pub numeric_lies : (i : Interval) (n : ℤ) → Number n → cousot i ∋ n → Lies key cells (numeric i) (keys.number n)
@@ -81,7 +81,7 @@ module _ (key : ℕ → Option Key) (cells : List ℕ) where
   pub copied_lies : (v : Value) (k : Key) → Lies key cells v k → Ensures (λ w. Lies key cells w k) (copied v)
   copied_lies v k h = weaken (λ w e. rw e h) (copied_is v)
 
-  pub join_lies : (width : ℕ) (u v : Value) (k : Key) → Proper k → Lies key cells u k ⊎ Lies key cells v k → Ensures (λ w. Lies key cells w k) (join width u v)
+  pub join_lies : (width : ℕ) (u v : Value) (k : Key) → ProperKey k → Lies key cells u k ⊎ Lies key cells v k → Ensures (λ w. Lies key cells w k) (join width u v)
   join_lies width u v k p h =
       weaken (λ w. from_in k p w) (members.join_in num Stands width u v (with_proper k p) (⊎_elim (λ a. inl (to_in k p u a)) (λ a. inr (to_in k p v a)) h))
 
@@ -107,11 +107,11 @@ module _ (key : ℕ → Option Key) (cells : List ℕ) where
         go i (keys.number z) e f n = let y : ◌≡◌ {A = ℕ} 0 1 = cc in absurd (omega arith)
         go i (name s) e f n = kept_name i s f n
 
-        fit : (k : Key) (n : ℤ) → number_of k ≡ some n → Proper k → Number n
+        fit : (k : Key) (n : ℤ) → number_of k ≡ some n → ProperKey k → Number n
         fit (keys.number z) n e p = let f : z ≡ n = cc in subst Number f p
         fit (name s) n e p = let y : ◌≡◌ {A = ℕ} 0 1 = cc in absurd (omega arith)
 
-    pub meet_lies : (u v : Value) → Sorted u.values → Sorted v.values → (k : Key) → Proper k → Lies key cells u k → Lies key cells v k →
+    pub meet_lies : (u v : Value) → Sorted u.values → Sorted v.values → (k : Key) → ProperKey k → Lies key cells u k → Lies key cells v k →
         Ensures (λ w. Lies key cells w k) (meet cells u v)
     meet_lies u v su sv k p a b =
         weaken (λ w. from_in k p w) (members.meet_in num Stands cells keyed u v su sv (with_proper k p) (to_in k p u a) (to_in k p v b))
@@ -126,7 +126,7 @@ module _ (key : ℕ → Option Key) (cells : List ℕ) where
     pub constant_lies : (i width : ℕ) (k : Key) → key i ≡ some k → Ensures (λ w. Lies key cells w k) (constant i (constant_at cells i) width)
     constant_lies i width k e = go (constant_at cells i) refl
       where
-        p : Proper k
+        p : ProperKey k
         p = t.proper i k e
 
         kept : (constant_at cells i ≡ Large → ⊥) → Ensures (λ w. Lies key cells w k) (constant i (constant_at cells i) width)

@@ -17,24 +17,24 @@ use Rattle.limits.specs.declared.Stop.{Stop}
 use Rattle.limits.specs.Metered.{Run}
 use Rattle.limits.proofs.Ends.{Ends, completes, stops, ends_as}
 use Rattle.sizes.specs.Sizes.{value_row}
-use Rattle.rows.specs.Row.{entries_of, value_at}
+use Rattle.rows.specs.Row.{entries_of, value_at, moved}
 use Rattle.keys.specs.Key.{Key}
 use Rattle.thresholds.specs.Thresholds.{entry}
-use Rattle.store.specs.Store.{Context}
+use Rattle.limits.specs.Context.{Context}
 use Rattle.store.specs.declared.Phase.TheVariants.{Completed, Stopped}
 use Rattle.slots.specs.Slots.{total}
 use Rattle.seeds.proofs.Seeded.{entries_in}
 use Rattle.seeds.proofs.Seeded as seeds
-use Rattle.rounds.specs.Round.{blank, moved}
-use Rattle.rounds.proofs.Moved.{moved_row, moved_total}
-use Rattle.rounds.proofs.Copied.{Same}
+use Rattle.rounds.specs.Round.{blank}
+use Rattle.slots.proofs.Moved.{moved_row, moved_total}
+use Rattle.slots.proofs.Copied.{Same}
 use Rattle.rounds.proofs.Live.{Room, blank_formed}
 use Rattle.engine.specs.Run.{Beginning, beginning, Progress, progress, finish}
 use Rattle.engine.specs.Call.{Tables, tables, read, concluded, finished, ran_on}
 use Rattle.engine.proofs.Finished.{Settled, finish_alone, finish_ends}
 use Rattle.engine.proofs.Begun.{Ended, Sown, begin_ends}
 use Rattle.input.specs.Input as input
-use Rattle.soundness.specs.Plain.{Opaque, State}
+use Rattle.soundness.specs.Plain.{Opaque, PlainState}
 use Rattle.soundness.specs.Run.{Accepted, Seeded, Firing, Produces, fired, Reaches}
 use Rattle.soundness.proofs.Round.{stored_fit}
 use Rattle.soundness.proofs.Grounded.{Inside, Grounded, ends_all, seeds_good}
@@ -61,10 +61,10 @@ module _ {p : Accepted} {t : input.Tables} (g : Grounded p t) where
 
   -- without rules nothing but the seeds is reached
   module _ (z : t.header.counts.rules ≡ 0) (o : Opaque) where
-    nothing_fires : (s : State) (f : Firing) (a : ℕ) (k : Key) → Produces o p s f a k → ⊥
+    nothing_fires : (s : PlainState) (f : Firing) (a : ℕ) (k : Key) → Produces o p s f a k → ⊥
     nothing_fires s f a k h = omega (arith, (g.rules f.rule h.among).below)
 
-    stays : (fs : List Firing) (s : State) → ((a : ℕ) (k : Key) → s a k → Inside p t t.seeds a k) → (a : ℕ) (k : Key) → fired o p s fs a k → Inside p t t.seeds a k
+    stays : (fs : List Firing) (s : PlainState) → ((a : ℕ) (k : Key) → s a k → Inside p t t.seeds a k) → (a : ℕ) (k : Key) → fired o p s fs a k → Inside p t t.seeds a k
     unfolding fired
     stays [] s h a k x = h a k x
     stays (f ∷ fs) s h a k x = stays fs (λ b v. s b v ⊎ Produces o p s f b v) (λ b v. ⊎_elim (h b v) (λ q. absurd (nothing_fires s f b v q))) a k x

@@ -29,15 +29,15 @@ use Rattle.slots.proofs.Live.{Formed, formed_put}
 use Rattle.evaluation.specs.Evaluation.{Input, input}
 use Rattle.transfer.specs.Transfer.{Frame, frame, rule, head}
 use Rattle.transfer.proofs.Live.{head_good}
-use Rattle.rounds.specs.Locals.{Locals, locals, fill, blank, locals_of, local}
+use Rattle.rounds.specs.Locals.{Locals, locals, fill, blank_frame, locals_of, own_locals}
 use Rattle.rounds.specs.Round.{join_head, apply}
 use Rattle.rounds.proofs.Brings.{Brings, rows_of, brings_each, brings_hit, brings_locals}
 use Rattle.rounds.proofs.Joined.{brings_head}
 use Rattle.rounds.proofs.Live.{Fit, Legible, local_live, Room, head_keeps}
 use Rattle.input.specs.Input.{Tables}
 use Rattle.input.proofs.Reached.{Reached}
-use Rattle.soundness.specs.Plain.{Tree, Opaque, Choice, into, Proper, Fires, worth, HeadsGive}
-use Rattle.soundness.specs.Tied.{binding_of, guard_of, head_of}
+use Rattle.soundness.specs.Plain.{Tree, Opaque, Choice, into, ProperKey, Fires, worth, HeadsGive}
+use Rattle.soundness.specs.Tied.{plain_binding, plain_guard, plain_head}
 use Rattle.soundness.proofs.Lies.{Lies, join_lies}
 use Rattle.soundness.proofs.Worth.{ProperChoice, proper_into}
 use Rattle.soundness.proofs.Evaluating.{Sound}
@@ -71,7 +71,7 @@ module _ (key : ℕ → Option Key) (cells : List ℕ) (n a : ℕ) (k : Key) whe
     pub room : Room n rows
     pub lies : Lies key cells (value_at rows a) k
 
-module _ (t : Tables) (small : All (λ c. c < 2 ^ 32) t.constants) (key : ℕ → Option Key) (n a : ℕ) (inside : a < n) (k : Key) (proper : Proper k) where
+module _ (t : Tables) (small : All (λ c. c < 2 ^ 32) t.constants) (key : ℕ → Option Key) (n a : ℕ) (inside : a < n) (k : Key) (proper : ProperKey k) where
   abbrev Has' : List ℕ → Type 0
   Has' rows = Has key t.constants n a k rows
 
@@ -126,7 +126,7 @@ pub record Hit (o : Opaque) (x : ℕ → Key) (tree : ℕ → Tree) (hs : List H
   pub proper : ProperChoice choice
   pub value : worth o x choice (tree head.value) ≡ some k
 
-pub hit : (o : Opaque) (x : ℕ → Key) (tree : ℕ → Tree) (ch : Choice) → ProperChoice ch → (hs : List Head) (a : ℕ) (k : Key) → HeadsGive o x ch (map (head_of tree) hs) a k → Hit o x tree hs a k
+pub hit : (o : Opaque) (x : ℕ → Key) (tree : ℕ → Tree) (ch : Choice) → ProperChoice ch → (hs : List Head) (a : ℕ) (k : Key) → HeadsGive o x ch (map (plain_head tree) hs) a k → Hit o x tree hs a k
 hit o x tree ch p [] a k x3 = elim x3 [ ]
 hit o x tree ch p (h ∷ hs) a k (inl g) = record { head = h; among = Memᴰ.head refl; argument = g.0; choice = into 0 ch; proper = proper_into 0 p; value = g.1 }
 hit o x tree ch p (h ∷ hs) a k (inr g) =
@@ -136,18 +136,18 @@ hit o x tree ch p (h ∷ hs) a k (inr g) =
 -- ---- a rule that fires
 
 module _ {t : Tables} (g : Stage t) (previous : List ℕ) (valued : Valued t previous) (formed : Formed previous) (id : ℕ) (l : id < t.header.counts.rules)
-    (fires : Fires g.opaque (Among (scene_of g) previous) g.choices (map (binding_of g.tree) (bindings_at t.rules id)) (map (guard_of g.tree) (guards_at t.rules id))) where
+    (fires : Fires g.opaque (Among (scene_of g) previous) g.choices (map (plain_binding g.tree) (bindings_at t.rules id)) (map (plain_guard g.tree) (guards_at t.rules id))) where
   abbrev Kept : Locals → Type 0
   Kept s = Fired (scene_of g) (slots_at t.rules id) s.recorded (frame (record { work = 0; max_work = 0; entries = 0; max_entries = 0 }) s.domains s.produced s.refinements)
 
-  local_fired : (m : Meter) → Ends (λ s _. Kept s) (λ _ _. Unit {0}) (local (over t) t.rules id previous m)
-  unfolding local fill
+  local_fired : (m : Meter) → Ends (λ s _. Kept s) (λ _ _. Unit {0}) (own_locals (over t) t.rules id previous m)
+  unfolding own_locals fill
   local_fired m =
       go
       (on_then (λ u. u.meter) (λ u n. frame n u.domains u.produced u.refinements) (λ u n. frame n u.domains u.produced u.refinements) (λ x. x) {P = λ _ _. Unit {0}} {Q = λ _ _. Unit {0}} (work 1)
-      (rule (over t) t.rules id previous) (blank m) (in_some_way (work 1 m))
+      (rule (over t) t.rules id previous) (blank_frame m) (in_some_way (work 1 m))
       (λ _ n _.
-      stored_rule g previous valued id l fires t.header.budget.limits.width (frame n (blank m).domains (blank m).produced (blank m).refinements)
+      stored_rule g previous valued id l fires t.header.budget.limits.width (frame n (blank_frame m).domains (blank_frame m).produced (blank_frame m).refinements)
       (rw (length-replicate {A = ℕ} (value_row * 16) 0) (omega arith)) (rw (length-replicate {A = ℕ} (value_row * 16) 0) (omega arith)))
       (λ _ _ _. tt))
     where
@@ -162,7 +162,7 @@ module _ {t : Tables} (g : Stage t) (previous : List ℕ) (valued : Valued t pre
   fit = stored_fit t g.reached id l
 
   -- what the head gives lies in the argument's row
-  pub apply_gives : (a : ℕ) (inside : a < count) (k : Key) (proper : Proper k) → Hit g.opaque g.choices.slots g.tree (heads_at t.rules id) a k →
+  pub apply_gives : (a : ℕ) (inside : a < count) (k : Key) (proper : ProperKey k) → Hit g.opaque g.choices.slots g.tree (heads_at t.rules id) a k →
       Brings (rows_of count) (Room count) (Has g.key t.constants count a k) (apply (over t) t.rules previous id)
   unfolding apply
   apply_gives a inside k proper h =

@@ -25,8 +25,8 @@ use Rattle.passes.proofs.Growing.{grow_good, grow_in, grow_same, grow_lives}
 use Rattle.passes.proofs.Renewed.{Advances, Passed}
 use Rattle.passes.proofs.Passing.{pass_ends}
 use Rattle.input.specs.Input.{Tables}
-use Rattle.soundness.specs.Plain.{Opaque, State, Proper}
-use Rattle.soundness.specs.Run.{Accepted, key_of, Seeded, Firing, Produces, fired, Reaches}
+use Rattle.soundness.specs.Plain.{Opaque, PlainState, ProperKey}
+use Rattle.soundness.specs.Run.{Accepted, key_for, Seeded, Firing, Produces, fired, Reaches}
 use Rattle.soundness.proofs.Lies.{Lies, num, with_proper, to_in, from_in}
 use Rattle.soundness.proofs.Lies as lies
 use Rattle.soundness.proofs.Round.{over}
@@ -34,7 +34,7 @@ use Rattle.soundness.proofs.Grounded.{Inside, Grounded, Stepped, seeded, produce
 
 -- ---- one argument of a pass
 
-module _ (key : ℕ → Option Key) (cells : List ℕ) (width : ℕ) (thresholds : List ℤ) (old candidate : Value) (g : Growth) (k : Key) (p : Proper k) where
+module _ (key : ℕ → Option Key) (cells : List ℕ) (width : ℕ) (thresholds : List ℤ) (old candidate : Value) (g : Growth) (k : Key) (p : ProperKey k) where
   grow_lies : Lies key cells old k ⊎ Lies key cells candidate k → Ensures (λ w. Lies key cells w.value k) (grow width thresholds old candidate g)
   grow_lies h =
       weaken (λ w. from_in key cells k p w.value)
@@ -70,16 +70,16 @@ module _ {p : Accepted} {t : Tables} (g : Grounded p t) (o : Opaque) (thresholds
 
   -- a new value of the argument j has what a step gives and what the old one had; where it has not changed, no more than the old one
   pub record New (values : List ℕ) (j : ℕ) (v : Value) (changed : Bool) : Type 0 where
-    pub steps : (k : Key) → Stepped o p (Inside p t values) j k → Lies (key_of p) t.constants v k
-    pub back : changed ≡ false → (k : Key) → Proper k → Lies (key_of p) t.constants v k → Lies (key_of p) t.constants (value_at values j) k
+    pub steps : (k : Key) → Stepped o p (Inside p t values) j k → Lies (key_for p) t.constants v k
+    pub back : changed ≡ false → (k : Key) → ProperKey k → Lies (key_for p) t.constants v k → Lies (key_for p) t.constants (value_at values j) k
 
   advances : (values : List ℕ) → Room n values → (rows : List ℕ) → Round values rows → (j width : ℕ) (h : Growth) → Advances (New values j) (grow width thresholds (value_at values j) (value_at rows j) h)
   advances values room rows r j width h = record {
     lives = grow_lives width thresholds (value_at values j) (value_at rows j) h;
     gives = weaken (λ w z. (z.0, record { steps = λ k s. z.1.0 (k, s); back = λ c k q. z.1.1 (k, q) c }))
         (both (grow_good width thresholds (value_at values j) (value_at rows j) h numbers (room.1 j) (r.room.1 j))
-        (both (for_all (λ (i : (k : Key) × Stepped o p (Inside p t values) j k). let s = r.steps j i.0 i.1 in grow_lies (key_of p) t.constants width thresholds (value_at values j) (value_at rows j) h i.0 s.proper (inr s.lies)))
-        (for_all (λ (i : (k : Key) × Proper k). grow_back (key_of p) t.constants width thresholds (value_at values j) (value_at rows j) h i.0 i.1))));
+        (both (for_all (λ (i : (k : Key) × Stepped o p (Inside p t values) j k). let s = r.steps j i.0 i.1 in grow_lies (key_for p) t.constants width thresholds (value_at values j) (value_at rows j) h i.0 s.proper (inr s.lies)))
+        (for_all (λ (i : (k : Key) × ProperKey k). grow_back (key_for p) t.constants width thresholds (value_at values j) (value_at rows j) h i.0 i.1))));
   }
 
   -- an unchanged pass leaves closed values
@@ -105,13 +105,13 @@ module _ {p : Accepted} {t : Tables} (g : Grounded p t) (o : Opaque) (thresholds
 
   -- where values are closed, and a round over them has what they lead to, all that the plain run ever reaches lies in both
   module _ (values rows : List ℕ) (fixed : Closed values) (round : Round values rows) where
-    abbrev Both : State
+    abbrev Both : PlainState
     Both a k = Inside p t values a k × Inside p t rows a k
 
     step_both : (a : ℕ) (k : Key) → Stepped o p (Inside p t values) a k → Both a k
     step_both a k h = (fixed a k h, round.steps a k h)
 
-    stays : (fs : List Firing) (s : State) → ((a : ℕ) (k : Key) → s a k → Both a k) → (a : ℕ) (k : Key) → fired o p s fs a k → Both a k
+    stays : (fs : List Firing) (s : PlainState) → ((a : ℕ) (k : Key) → s a k → Both a k) → (a : ℕ) (k : Key) → fired o p s fs a k → Both a k
     unfolding fired
     stays [] s h a k x = h a k x
     stays (f ∷ fs) s h a k x =

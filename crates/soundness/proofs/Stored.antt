@@ -23,7 +23,7 @@ use Rattle.input.proofs.Reached.{Ruled, Reached}
 use Rattle.evaluation.specs.Evaluation.{input}
 use Rattle.transfer.specs.Transfer.{Frame, rule, head}
 use Rattle.soundness.specs.Plain.{Tree, Opaque, Choices, Fires}
-use Rattle.soundness.specs.Tied.{binding_of, guard_of, Constants, Trees}
+use Rattle.soundness.specs.Tied.{plain_binding, plain_guard, Constants, Trees}
 use Rattle.soundness.proofs.Worth.{Scene}
 use Rattle.soundness.proofs.Evaluating.{Sound}
 use Rattle.soundness.proofs.Binding.{Among}
@@ -99,7 +99,7 @@ module _ {t : Tables} (g : Stage t) (arguments : List ℕ) (v : Valued t argumen
     row_of = g.reached.rules.at id l
 
     -- where all bindings and guards hold for values in the arguments, the slots' values lie in what `rule` gives
-    pub stored_rule : Fires g.opaque (Among (scene_of g) arguments) g.choices (map (binding_of g.tree) (bindings_at t.rules id)) (map (guard_of g.tree) (guards_at t.rules id)) →
+    pub stored_rule : Fires g.opaque (Among (scene_of g) arguments) g.choices (map (plain_binding g.tree) (bindings_at t.rules id)) (map (plain_guard g.tree) (guards_at t.rules id)) →
         (width : ℕ) (s : Frame) → value_row * 16 ≤ length s.domains → value_row * 16 ≤ length s.produced →
         Ends (λ k u. Fired (scene_of g) (slots_at t.rules id) k u) (λ _ _. Unit {0}) (rule (input t.nodes t.constants width) t.rules id arguments s)
     stored_rule fires width s d p =

@@ -27,7 +27,7 @@ use Rattle.store.specs.declared.Phase.TheVariants.{Absent, Open, Completed, Stop
 use Rattle.store.specs.declared.Store.{Store}
 use Rattle.store.specs.Store.{admits, empty, fresh_of}
 use Rattle.store.specs.Calls.{open?}
-use Rattle.engine.specs.Call.{read, sizes, result_sizes, spacious, ran_on, run_call}
+use Rattle.engine.specs.Call.{read, sized, results_sized, spacious, ran_on, run_call}
 use Rattle.engine.specs.Call as engine
 use Rattle.input.specs.Input as input
 use Rattle.input.proofs.Played.{call_keeps}
@@ -37,7 +37,7 @@ use Rattle.numeric.specs.Reading as reading
 use Rattle.numeric.specs.Step.{Call, store, run, argument, context_count, context, slot, key, status, Answer, value, State, state, for_run, from_run, on_store, on_run, on_reading, step, Event, event, play, header_of, fresh}
 use Rattle.numeric.specs.Step as calls
 use Rattle.soundness.specs.Plain.{Opaque}
-use Rattle.soundness.specs.Run.{Accepted, accepted, key_of, said, noted, heard_from, Firing, Reaches}
+use Rattle.soundness.specs.Run.{Accepted, accepted, key_for, said, learned, heard_from, Firing, Reaches}
 use Rattle.soundness.specs.Claim.{LiesInBound, LiesInList, LiesIn, Typed, Lent, Demand3}
 use Rattle.lattice.proofs.Members.{InBound, Listed}
 use Rattle.soundness.proofs.Lies.{number_of, Lies, Kept}
@@ -52,14 +52,14 @@ use Rattle.soundness.proofs.TiedRows.{context_ties, work_ties, argument_ties, pr
 
 -- ---- from what lies in a value to the claim's words
 
-lies_in : (p : Accepted) (cells : List ℕ) (v : Value) (k : Key) → Lies (key_of p) cells v k → LiesIn p k v
+lies_in : (p : Accepted) (cells : List ℕ) (v : Value) (k : Key) → Lies (key_for p) cells v k → LiesIn p k v
 lies_in p cells v k h = record { bound = bound k h.bound; list = list v.values h.list }
   where
     bound : (k : Key) → InBound (number_of k) v.bound → LiesInBound k v.bound
     bound (keys.number z) x = x
     bound (name s) x = x
 
-    list : (o : Option (List ℕ)) → Listed (Kept (key_of p) cells) k o → LiesInList p k o
+    list : (o : Option (List ℕ)) → Listed (Kept (key_for p) cells) k o → LiesInList p k o
     list none x = tt
     list (some l) x = (x.0, x.1, x.2.0)
 
@@ -95,7 +95,7 @@ reading_after f s (reading.refused e) = refl
 -- what a step leaves of a store, of which p has been said
 pub record Idle (p : Accepted) (c : Call) (s : State) : Type 0 where
   pub after : (step c s).after ≡ s
-  pub said : noted p c (step c s).answer ≡ p
+  pub said : learned p c (step c s).answer ≡ p
 
 module _ (p : Accepted) (s : State) (shut : admits s.tables.header.phase ≡ false) where
   never : open? s.tables.header ≡ true → ⊥
@@ -113,7 +113,7 @@ module _ (p : Accepted) (s : State) (shut : admits s.tables.header.phase ≡ fal
   unfolding step run_call
   run_idle =
       go (run_call (read s.tables.nodes s.tables.constants s.tables.rules s.tables.seeds) (for_run s))
-      (ends_test (sizes (length s.tables.nodes) (length s.tables.constants) (length s.tables.rules) (length s.tables.seeds) (length s.tables.thresholds) && result_sizes (length s.arguments) (length s.slots))
+      (ends_test (sized (length s.tables.nodes) (length s.tables.constants) (length s.tables.rules) (length s.tables.seeds) (length s.tables.thresholds) && results_sized (length s.arguments) (length s.slots))
       (λ _. ends_test (open? s.tables.header) (λ h. absurd (never h)) (λ _. stops refl)) (λ _. stops refl)) refl
     where
       go : (x : Run Told engine.Tables (Unit {0})) → Ends (λ _ _. ⊥) (λ _ u. u ≡ for_run s) x → run_call (read s.tables.nodes s.tables.constants s.tables.rules s.tables.seeds) (for_run s) ≡ x → Idle p run s
@@ -145,7 +145,7 @@ module _ (ties : (c : input.Call) → input.Typed c → (p : Accepted) (t : inpu
     (ground : (p : Accepted) (t : input.Tables) → Tied p t → Grounded p t) where
   module _ (p : Accepted) (s : State) (opened : s.tables.header.phase ≡ Open) (tied : Tied p s.tables) where
     -- a call is accepted or refused
-    store_stands : (c : input.Call) → input.Typed c → Stands (noted p (store c) (step (store c) s).answer) (step (store c) s).after
+    store_stands : (c : input.Call) → input.Typed c → Stands (learned p (store c) (step (store c) s).answer) (step (store c) s).after
     unfolding step
     store_stands c h = go (input.call c s.tables) (ends_both (ties c h p s.tables tied) (phase c h))
       where
@@ -154,26 +154,26 @@ module _ (ties : (c : input.Call) → input.Typed c → (p : Accepted) (t : inpu
             ends_as (ends_both (call_phase s.tables tied.reached c h) (call_keeps c h s.tables tied.reached))
             (λ _ u q. q.0 ∙ opened) (λ _ u q. q.1.leaves.header.phase ∙ opened)
 
-        go : (x : Run Told input.Tables input.Reply) → Ends (λ r u. Tied (said p c r) u × (u.header.phase ≡ Open)) (λ _ u. Tied p u × (u.header.phase ≡ Open)) x → Stands (noted p (store c) (on_store s x).answer) (on_store s x).after
+        go : (x : Run Told input.Tables input.Reply) → Ends (λ r u. Tied (said p c r) u × (u.header.phase ≡ Open)) (λ _ u. Tied p u × (u.header.phase ≡ Open)) x → Stands (learned p (store c) (on_store s x).answer) (on_store s x).after
         go x (completes q) = building q.1 q.0
         go x (stops q) = building q.1 q.0
 
     -- the run is taken, and completes or is stopped; or it is refused, and nothing has changed
-    run_stands : Stands (noted p run (step run s).answer) (step run s).after
+    run_stands : Stands (learned p run (step run s).answer) (step run s).after
     unfolding step run_call
     run_stands =
         go (run_call tables (for_run s))
-        (ends_test (sizes (length s.tables.nodes) (length s.tables.constants) (length s.tables.rules) (length s.tables.seeds) (length s.tables.thresholds) && result_sizes (length s.arguments) (length s.slots))
+        (ends_test (sized (length s.tables.nodes) (length s.tables.constants) (length s.tables.rules) (length s.tables.seeds) (length s.tables.thresholds) && results_sized (length s.arguments) (length s.slots))
         (λ z.
         ends_test (open? s.tables.header) (λ _. ends_test (spacious s.tables.header.counts) (λ q. completes (ran z q)) (λ _. stops refl)) (λ _. stops refl)) (λ _. stops refl))
       where
         tables : engine.Read
         tables = read s.tables.nodes s.tables.constants s.tables.rules s.tables.seeds
 
-        ran : sizes (length s.tables.nodes) (length s.tables.constants) (length s.tables.rules) (length s.tables.seeds) (length s.tables.thresholds) && result_sizes (length s.arguments) (length s.slots) ≡ true →
+        ran : sized (length s.tables.nodes) (length s.tables.constants) (length s.tables.rules) (length s.tables.seeds) (length s.tables.thresholds) && results_sized (length s.arguments) (length s.slots) ≡ true →
             spacious s.tables.header.counts ≡ true → Ran (ground p s.tables tied) (for_run s) (ran_on tables (for_run s))
         ran z q =
-            let wide : length s.arguments ≡ size.argument_cells = eqb-true (length s.arguments) size.argument_cells (and_left _ (eqb (length s.slots) size.bounds_cells) (and_right (sizes (length s.tables.nodes) (length s.tables.constants) (length s.tables.rules) (length s.tables.seeds) (length s.tables.thresholds)) _ z)) in
+            let wide : length s.arguments ≡ size.argument_cells = eqb-true (length s.arguments) size.argument_cells (and_left _ (eqb (length s.slots) size.bounds_cells) (and_right (sized (length s.tables.nodes) (length s.tables.constants) (length s.tables.rules) (length s.tables.seeds) (length s.tables.thresholds)) _ z)) in
             let few : s.tables.header.counts.thresholds ≤ size.thresholds_before_run =
             leb-true s.tables.header.counts.thresholds size.thresholds_before_run (and_right (leb s.tables.header.counts.rules 256) _ (and_right (leb s.tables.header.counts.positions 256) _ q)) in
             ran_sound (ground p s.tables tied) tied.numbers (omega (arith, tied.reached.sized.thresholds)) s.arguments s.slots (omega (arith, tied.reached.counted.positions))
@@ -186,13 +186,13 @@ module _ (ties : (c : input.Call) → input.Typed c → (p : Accepted) (t : inpu
         go x (completes {s = u} (halted ph live a b)) = without (rw ph refl) (λ h. let z : ◌≡◌ {A = ℕ} 0 1 = cc in omega arith)
         go x (stops {s = u} h) = subst (λ (v : engine.Tables). Stands p (from_run v s)) (sym h) (building opened tied)
 
-  step_stands : (c : Call) → Typed c → (p : Accepted) (s : State) → Stands p s → Stands (noted p c (step c s).answer) (step c s).after
+  step_stands : (c : Call) → Typed c → (p : Accepted) (s : State) → Stands p s → Stands (learned p c (step c s).answer) (step c s).after
   unfolding step
   step_stands c h p s (complete ph f) = let i = closed_step p s (rw ph refl) c in rw (i.said, i.after) (complete ph f)
   step_stands c h p s (without a b) = let i = closed_step p s a c in rw (i.said, i.after) (without a b)
   step_stands c h p s (building o t) = go c h
     where
-      go : (c : Call) → Typed c → Stands (noted p c (step c s).answer) (step c s).after
+      go : (c : Call) → Typed c → Stands (learned p c (step c s).answer) (step c s).after
       go (store c) h = store_stands p s o t c h
       go run h = run_stands p s o t
       go (argument a) h = subst (Stands p) (sym (reading_after value s (argument_reading s.tables.header s.arguments a))) (building o t)
@@ -209,7 +209,7 @@ module _ (ties : (c : input.Call) → input.Typed c → (p : Accepted) (t : inpu
       Reaches o (heard_from p (play s cs)) fs a k → Memᴰ (event (argument a) (value v)) (play s cs) → LiesIn (heard_from p (play s cs)) k v
   unfolding play heard_from
   sound_from o fs a k v [] h p s st x x5 = elim x5 [ ]
-  sound_from o fs a k v (c ∷ cs) h p s st x (Memᴰ.tail m) = sound_from o fs a k v cs h.1 (noted p c (step c s).answer) (step c s).after (step_stands c h.0 p s st) x m
+  sound_from o fs a k v (c ∷ cs) h p s st x (Memᴰ.tail m) = sound_from o fs a k v cs h.1 (learned p c (step c s).answer) (step c s).after (step_stands c h.0 p s st) x m
   sound_from o fs a k v (c ∷ cs) h p s st x (Memᴰ.head e) = read_here (reads s a v (subst (λ (d : Call). (step d s).answer ≡ value v) (ap (λ (z : Event). z.call) (sym e)) (ap (λ (z : Event). z.answer) (sym e)))) st
     where
       -- the reading stands in a completed store, of which nothing more is said

@@ -1,4 +1,4 @@
--- What the tables of a store hold of the accepted calls grounds a run, and the calls of `constant` and `expression` keep it so.
+-- What the tables of a store hold of the accepted calls grounds a run, and the calls of `constant` and `expression` keep_key it so.
 use Rattle.sizes.specs.Sizes as size
 use Prim.Native.Nat.{ℕ, ◌+◌, ◌*◌, ◌≤◌, ◌<◌, ◌^◌}
 use native.Mathlib.Omega.{arith}
@@ -45,8 +45,8 @@ use Rattle.rules.specs.declared.Guard.TheVariants.{Compare, Membership}
 use Rattle.rules.specs.declared.Head.{Head}
 use Rattle.rules.specs.Read.{bindings_at, guards_at, heads_at}
 use Rattle.store.specs.declared.Store.{Store}
-use Rattle.store.specs.Calls.{unless, open?, charged, Marks}
-use Rattle.constants.specs.Constant.{bytes_of, kind_of, payload_of, retains, classify, KeyTables, settle, keep, abandon, retain, add_key, add_large, in_marks, in_keys, sizes, spacious, constant_call}
+use Rattle.store.specs.Calls.{unless, open?, billing, Marks}
+use Rattle.constants.specs.Constant.{bytes_of, kind_cell, payload_cell, retains, classify, KeyTables, settle, keep_key, abandon, retain_key, add_key, add_large, in_marks, in_keys, sized, spacious, constant_call}
 use Rattle.constants.specs.Constant as constants
 use Rattle.constants.proofs.Kept.{Numbered, again, newly}
 use Rattle.constants.proofs.Kept as kept
@@ -61,9 +61,9 @@ use Rattle.input.specs.Input.{Tables, TypedKey, constant, expression, id, for_co
 use Rattle.input.proofs.Reached.{Reached, one_id}
 use Rattle.input.proofs.Left.{on_ends_lem, Refused, given_new, given_more}
 use Rattle.input.proofs.Calls.{constant_keeps, expression_keeps}
-use Rattle.soundness.specs.Plain.{Tree, nothing, unary, absolute, binary, Proper, assign, range, compare, member}
-use Rattle.soundness.specs.Tied.{key_tree, tree_of, binding_of, guard_of, head_of, Constants, Trees}
-use Rattle.soundness.specs.Run.{Accepted, PlainRule, first, key_of, tree_at, or_nothing, said}
+use Rattle.soundness.specs.Plain.{Tree, nothing, unary, absolute, binary, ProperKey, assign, range, compare, member}
+use Rattle.soundness.specs.Tied.{key_tree, tree_of, plain_binding, plain_guard, plain_head, Constants, Trees}
+use Rattle.soundness.specs.Run.{Accepted, PlainRule, stands_for, key_for, tree_at, or_nothing, said}
 use Rattle.soundness.specs.Run as run
 use Rattle.soundness.proofs.Lies.{Kept, Lies}
 use Rattle.soundness.proofs.Stored.{bindings_inside, guards_inside, heads_inside}
@@ -102,7 +102,7 @@ same_number : {y z : ℤ} → keys.number y ≡ keys.number z → y ≡ z
 same_number e = cc
 
 module _ {p : Accepted} {t : Tables} (h : Tied p t) where
-  numbers_tied : (i : ℕ) (z : ℤ) → key_of p i ≡ some (keys.number z) → constant_at t.constants i ≡ number z
+  numbers_tied : (i : ℕ) (z : ℤ) → key_for p i ≡ some (keys.number z) → constant_at t.constants i ≡ number z
   numbers_tied i z e = elim (ℕ_discrete (kind_at t.constants i) 1) [
     | yes a ↦ at_number t.names t.constants i a ∙ ap number (same_number (sym (key_number t.names t.constants i a) ∙ h.keys.kept i (keys.number z) e (inl a)))
     | no a ↦ elim (ℕ_discrete (kind_at t.constants i) 2) [
@@ -111,7 +111,7 @@ module _ {p : Accepted} {t : Tables} (h : Tied p t) where
     ]
   ]
 
-  names_tied : (i : ℕ) (s : List ℕ) → key_of p i ≡ some (name s) → (constant_at t.constants i ≡ Name) ⊎ (constant_at t.constants i ≡ Large)
+  names_tied : (i : ℕ) (s : List ℕ) → key_for p i ≡ some (name s) → (constant_at t.constants i ≡ Name) ⊎ (constant_at t.constants i ≡ Large)
   names_tied i s e = elim (ℕ_discrete (kind_at t.constants i) 1) [
     | yes a ↦ absurd (number_name (sym (key_number t.names t.constants i a) ∙ h.keys.kept i (name s) e (inl a)))
     | no a ↦ elim (ℕ_discrete (kind_at t.constants i) 2) [
@@ -120,7 +120,7 @@ module _ {p : Accepted} {t : Tables} (h : Tied p t) where
     ]
   ]
 
-  constants_tied : Constants (key_of p) t.constants
+  constants_tied : Constants (key_for p) t.constants
   constants_tied = record {
     numbers = numbers_tied;
     names = names_tied;
@@ -132,10 +132,10 @@ module _ {p : Accepted} {t : Tables} (h : Tied p t) where
     short = λ i k e. omega (arith, h.keys.inside i k e, h.reached.counted.constants);
   }
 
-  trees_tied : Trees (key_of p) (tree_at p) t.nodes
-  trees_tied = record { at = λ i. go i (first p.trees i) refl }
+  trees_tied : Trees (key_for p) (tree_at p) t.nodes
+  trees_tied = record { at = λ i. go i (stands_for p.trees i) refl }
     where
-      go : (i : ℕ) (o : Option Tree) → first p.trees i ≡ o → (tree_at p i ≡ nothing) ⊎ (tree_at p i ≡ tree_of (key_of p) (tree_at p) (expression_at t.nodes i))
+      go : (i : ℕ) (o : Option Tree) → stands_for p.trees i ≡ o → (tree_at p i ≡ nothing) ⊎ (tree_at p i ≡ tree_of (key_for p) (tree_at p) (expression_at t.nodes i))
       go i none e = inl (ap or_nothing e)
       go i (some u) e = inr (ap or_nothing e ∙ h.trees.is i u e)
 
@@ -152,51 +152,51 @@ module _ {A : Type 0} where
   some_same e = cc
 
   -- what an id stands for it still does
-  pub first_stays : (l m : List (run.Entry A)) (i : ℕ) (a : A) → first l i ≡ some a → first (l ++ m) i ≡ some a
+  pub first_stays : (l m : List (run.Named A)) (i : ℕ) (a : A) → stands_for l i ≡ some a → stands_for (l ++ m) i ≡ some a
   first_stays [] m i a h = absurd (none_some h)
   first_stays (e ∷ l) m i a h = go (first_stays l m i a) (eqb e.id i) h
     where
-      go : (first l i ≡ some a → first (l ++ m) i ≡ some a) → (b : Bool) → cond b (some e.given) (first l i) ≡ some a → cond b (some e.given) (first (l ++ m) i) ≡ some a
+      go : (stands_for l i ≡ some a → stands_for (l ++ m) i ≡ some a) → (b : Bool) → cond b (some e.given) (stands_for l i) ≡ some a → cond b (some e.given) (stands_for (l ++ m) i) ≡ some a
       go f true h = h
       go f false h = f h
 
   -- one that stands for nothing has what follows
-  pub first_follows : (l m : List (run.Entry A)) (i : ℕ) → first l i ≡ none → first (l ++ m) i ≡ first m i
+  pub first_follows : (l m : List (run.Named A)) (i : ℕ) → stands_for l i ≡ none → stands_for (l ++ m) i ≡ stands_for m i
   first_follows [] m i h = refl
   first_follows (e ∷ l) m i h = go (first_follows l m i) (eqb e.id i) h
     where
-      go : (first l i ≡ none → first (l ++ m) i ≡ first m i) → (b : Bool) → cond b (some e.given) (first l i) ≡ none → cond b (some e.given) (first (l ++ m) i) ≡ first m i
+      go : (stands_for l i ≡ none → stands_for (l ++ m) i ≡ stands_for m i) → (b : Bool) → cond b (some e.given) (stands_for l i) ≡ none → cond b (some e.given) (stands_for (l ++ m) i) ≡ stands_for m i
       go f true h = absurd (none_some (sym h))
       go f false h = f h
 
-  module _ (l : List (run.Entry A)) (j : ℕ) (x : A) where
+  module _ (l : List (run.Named A)) (j : ℕ) (x : A) where
     -- the new entry
-    pub first_last : first l j ≡ none → first (l ++ (run.entry j x ∷ [])) j ≡ some x
-    first_last h = first_follows l (run.entry j x ∷ []) j h ∙ rw (eq-eqb j j refl)
+    pub first_last : stands_for l j ≡ none → stands_for (l ++ (run.named j x ∷ [])) j ≡ some x
+    first_last h = first_follows l (run.named j x ∷ []) j h ∙ rw (eq-eqb j j refl)
 
     -- another id
-    pub first_other : (i : ℕ) → (i ≡ j → ⊥) → first (l ++ (run.entry j x ∷ [])) i ≡ first l i
-    first_other i n = go (first l i) refl
+    pub first_other : (i : ℕ) → (i ≡ j → ⊥) → stands_for (l ++ (run.named j x ∷ [])) i ≡ stands_for l i
+    first_other i n = go (stands_for l i) refl
       where
-        go : (o : Option A) → first l i ≡ o → first (l ++ (run.entry j x ∷ [])) i ≡ first l i
-        go none e = first_follows l (run.entry j x ∷ []) i e ∙ rw (ne_eqb j i (λ d. n (sym d))) (sym e)
-        go (some a) e = first_stays l (run.entry j x ∷ []) i a e ∙ sym e
+        go : (o : Option A) → stands_for l i ≡ o → stands_for (l ++ (run.named j x ∷ [])) i ≡ stands_for l i
+        go none e = first_follows l (run.named j x ∷ []) i e ∙ rw (ne_eqb j i (λ d. n (sym d))) (sym e)
+        go (some a) e = first_stays l (run.named j x ∷ []) i a e ∙ sym e
 
     -- an id that had an entry keeps it, so nothing changes
-    pub first_again : (a : A) → first l j ≡ some a → (i : ℕ) → first (l ++ (run.entry j x ∷ [])) i ≡ first l i
+    pub first_again : (a : A) → stands_for l j ≡ some a → (i : ℕ) → stands_for (l ++ (run.named j x ∷ [])) i ≡ stands_for l i
     first_again a h i = elim (ℕ_discrete i j) [
-      | yes e ↦ rw e (first_stays l (run.entry j x ∷ []) j a h ∙ sym h)
+      | yes e ↦ rw e (first_stays l (run.named j x ∷ []) j a h ∙ sym h)
       | no n ↦ first_other i n
     ]
 
     -- what is new is the entry
-    pub first_new : (i : ℕ) (a : A) → first (l ++ (run.entry j x ∷ [])) i ≡ some a → (first l i ≡ some a) ⊎ ((i ≡ j) × (first l j ≡ none) × (a ≡ x))
-    first_new i a h = go (first l i) refl
+    pub first_new : (i : ℕ) (a : A) → stands_for (l ++ (run.named j x ∷ [])) i ≡ some a → (stands_for l i ≡ some a) ⊎ ((i ≡ j) × (stands_for l j ≡ none) × (a ≡ x))
+    first_new i a h = go (stands_for l i) refl
       where
-        go : (o : Option A) → first l i ≡ o → (first l i ≡ some a) ⊎ ((i ≡ j) × (first l j ≡ none) × (a ≡ x))
-        go (some b) e = inl (e ∙ sym (first_stays l (run.entry j x ∷ []) i b e) ∙ h)
+        go : (o : Option A) → stands_for l i ≡ o → (stands_for l i ≡ some a) ⊎ ((i ≡ j) × (stands_for l j ≡ none) × (a ≡ x))
+        go (some b) e = inl (e ∙ sym (first_stays l (run.named j x ∷ []) i b e) ∙ h)
         go none e = elim (ℕ_discrete i j) [
-          | yes d ↦ let f : first l j ≡ none = subst (λ (n : ℕ). first l n ≡ none) d e in inr (d, f, some_same (sym h ∙ subst (λ (n : ℕ). first (l ++ (run.entry j x ∷ [])) n ≡ some x) (sym d) (first_last f)))
+          | yes d ↦ let f : stands_for l j ≡ none = subst (λ (n : ℕ). stands_for l n ≡ none) d e in inr (d, f, some_same (sym h ∙ subst (λ (n : ℕ). stands_for (l ++ (run.named j x ∷ [])) n ≡ some x) (sym d) (first_last f)))
           | no n ↦ inl (sym (first_other i n) ∙ h)
         ]
 
@@ -213,11 +213,11 @@ abbrev Small : List ℕ → Type 0
 Small l = All (λ c. c < 2 ^ 32) l
 
 module _ (k : Key) (typed : TypedKey k) (short : length (bytes_of k) ≤ 64) where
-  kind_small : (k : Key) → kind_of k < 2 ^ 32
+  kind_small : (k : Key) → kind_cell k < 2 ^ 32
   kind_small (keys.number v) = omega arith
   kind_small (name s) = omega arith
 
-  payload_small : (k : Key) → TypedKey k → length (bytes_of k) ≤ 64 → payload_of k < 2 ^ 32
+  payload_small : (k : Key) → TypedKey k → length (bytes_of k) ≤ 64 → payload_cell k < 2 ^ 32
   payload_small (keys.number v) p l = cell_small v p
   payload_small (name s) p l = omega arith
 
@@ -228,18 +228,18 @@ module _ (k : Key) (typed : TypedKey k) (short : length (bytes_of k) ≤ 64) whe
   unfolding settle
   settle_cells n (found i) t h = completes h
   settle_cells n (absent low) t h =
-      on_then _ _ _ _ _ (add_key k low) t (in_some_way _) (λ _ s _. completes (all_sets (λ c. c < 2 ^ 32) t.constants _ (kind_of k ∷ payload_of k ∷ []) h (kind_small k, (payload_small k typed short, tt)))) (λ _ s _. h)
+      on_then _ _ _ _ _ (add_key k low) t (in_some_way _) (λ _ s _. completes (all_sets (λ c. c < 2 ^ 32) t.constants _ (kind_cell k ∷ payload_cell k ∷ []) h (kind_small k, (payload_small k typed short, tt)))) (λ _ s _. h)
 
-  keep_cells : (t : KeyTables) → Small t.constants → Cells (keep k t)
-  unfolding keep
+  keep_cells : (t : KeyTables) → Small t.constants → Cells (keep_key k t)
+  unfolding keep_key
   keep_cells t h = on_bind _ _ _ _ _ (settle k t.header.counts.keys) t (in_some_way _) (λ p s _. settle_cells t.header.counts.keys p _ h) (λ _ s _. h)
 
   abandon_cells : (t : KeyTables) → Small t.constants → Cells (abandon t)
   unfolding abandon
   abandon_cells t h = on_then _ _ _ _ _ add_large t (in_some_way _) (λ _ s _. completes (all_sets (λ c. c < 2 ^ 32) t.constants _ (0 ∷ 0 ∷ []) h (omega arith, (omega arith, tt)))) (λ _ s _. h)
 
-  retain_cells : (t : KeyTables) → Small t.constants → Cells (retain k t)
-  unfolding retain
+  retain_cells : (t : KeyTables) → Small t.constants → Cells (retain_key k t)
+  unfolding retain_key
   retain_cells t h = ends_test (retains t.header.budget.limits k) (λ _. keep_cells t h) (λ _. abandon_cells t h)
 
 -- of the whole call
@@ -249,7 +249,7 @@ Fine u = Small u.constants × All Number u.thresholds
 constant_fine : (k : Key) → TypedKey k → (t : constants.Tables) → Fine t → Ends (λ _ u. Fine u) (λ _ u. Fine u) (constant_call k t)
 unfolding constant_call
 constant_fine k typed t h =
-    ends_test (sizes (length t.names) (length t.constants) (length t.order) (length t.thresholds))
+    ends_test (sized (length t.names) (length t.constants) (length t.order) (length t.thresholds))
     (λ _.
     ends_test (leb (length (bytes_of k)) 64)
     (λ l.
@@ -257,10 +257,10 @@ constant_fine k typed t h =
     (λ _.
     ends_test (spacious t.header.counts)
     (λ _.
-    on_then _ _ _ _ _ (in_marks (classify k) >> in_keys (retain k)) t (in_some_way _)
+    on_then _ _ _ _ _ (in_marks (classify k) >> in_keys (retain_key k)) t (in_some_way _)
     (λ _ s _.
-    on_then _ _ _ _ (classify k) (in_keys (retain k)) _ (classify_numbers k typed _ h.1)
-    (λ _ u n. ends_through _ _ _ _ (retain k) _ (retain_cells k typed (leb-true _ _ l) _ h.0) (λ _ v g. (g, n)) (λ _ v g. (g, n)))
+    on_then _ _ _ _ (classify k) (in_keys (retain_key k)) _ (classify_numbers k typed _ h.1)
+    (λ _ u n. ends_through _ _ _ _ (retain_key k) _ (retain_cells k typed (leb-true _ _ l) _ h.0) (λ _ v g. (g, n)) (λ _ v g. (g, n)))
     (λ _ u n. (h.0, n)))
     (λ _ s _. h))
     (λ _. stops h))
@@ -293,7 +293,7 @@ unnumbered : (l : Limits) (k : Key) → retains l k ≡ false → (s : List ℕ)
 unnumbered l (keys.number v) e = let z : ◌≡◌ {A = ℕ} 0 1 = cc in absurd (omega arith)
 unnumbered l (name s) e = (s, refl)
 
-typed_proper : (k : Key) → TypedKey k → Proper k
+typed_proper : (k : Key) → TypedKey k → ProperKey k
 typed_proper (keys.number v) h = h
 typed_proper (name s) h = tt
 
@@ -317,30 +317,30 @@ module _ {p : Accepted} {t : Tables} (h : Tied p t) (k : Key) (typed : TypedKey 
   n = t.header.counts.constants
 
   -- the constants that stood have the keys that they had
-  key_old : (j : ℕ) → j < n → key_of q j ≡ key_of p j
+  key_old : (j : ℕ) → j < n → key_for q j ≡ key_for p j
   key_old j l = go a.constants.numbered
     where
-      go : Numbered n i u.header.counts.constants → key_of q j ≡ key_of p j
+      go : Numbered n i u.header.counts.constants → key_for q j ≡ key_for p j
       go (again b e) = let x = h.keys.has i b in first_again p.keys i k x.0 x.1 j
       go (newly b e) = first_other p.keys i k j (λ d. omega arith)
 
-  key_here : (c : Key) × (key_of q i ≡ some c)
-  key_here = go (first p.keys i) refl
+  key_here : (c : Key) × (key_for q i ≡ some c)
+  key_here = go (stands_for p.keys i) refl
     where
-      go : (o : Option Key) → first p.keys i ≡ o → (c : Key) × (key_of q i ≡ some c)
+      go : (o : Option Key) → stands_for p.keys i ≡ o → (c : Key) × (key_for q i ≡ some c)
       go none e = (k, first_last p.keys i k e)
-      go (some c) e = (c, first_stays p.keys (run.entry i k ∷ []) i c e)
+      go (some c) e = (c, first_stays p.keys (run.named i k ∷ []) i c e)
 
-  key_has : (j : ℕ) → j < w.header.counts.constants → (c : Key) × (key_of q j ≡ some c)
+  key_has : (j : ℕ) → j < w.header.counts.constants → (c : Key) × (key_for q j ≡ some c)
   key_has j l = go (given_new a.constants j l)
     where
-      go : (j < n) ⊎ (j ≡ i) → (c : Key) × (key_of q j ≡ some c)
+      go : (j < n) ⊎ (j ≡ i) → (c : Key) × (key_for q j ≡ some c)
       go (inl b) = let x = h.keys.has j b in (x.0, key_old j b ∙ x.1)
       go (inr d) = (key_here.0, rw d key_here.1)
 
   -- an old constant, or the one of this call
   abbrev Either : ℕ → Key → Type 0
-  Either j c = (key_of p j ≡ some c) ⊎ ((j ≡ i) × (first p.keys i ≡ none) × (c ≡ k))
+  Either j c = (key_for p j ≡ some c) ⊎ ((j ≡ i) × (stands_for p.keys i ≡ none) × (c ≡ k))
 
   key_inside : (j : ℕ) (c : Key) → Either j c → j < w.header.counts.constants
   key_inside j c (inl f) = omega (arith, h.keys.inside j c f, given_more a.constants)
@@ -364,7 +364,7 @@ module _ {p : Accepted} {t : Tables} (h : Tied p t) (k : Key) (typed : TypedKey 
       go true e = absurd (r (rw f.0 (a.constants.kept e).0))
       go false e = let x = unnumbered t.header.budget.limits k e in (x.0, f.2 ∙ x.1)
 
-  key_proper : (j : ℕ) (c : Key) → Either j c → Proper c
+  key_proper : (j : ℕ) (c : Key) → Either j c → ProperKey c
   key_proper j c (inl f) = h.keys.proper j c f
   key_proper j c (inr f) = rw f.2 (typed_proper k typed)
 
@@ -384,7 +384,7 @@ module _ {p : Accepted} {t : Tables} (h : Tied p t) (k : Key) (typed : TypedKey 
     inside = λ j v e. omega (arith, a.header.expressions, h.trees.inside j v e);
     is = λ j v e.
         let s = h.reached.nested.at j (h.trees.inside j v e) in
-        h.trees.is j v e ∙ sym (tree_keys n (key_of p) (key_of q) (tree_at p) key_old (expression_at t.nodes j) (subst (Named n) (sym (standing_reads s)) s.named));
+        h.trees.is j v e ∙ sym (tree_keys n (key_for p) (key_for q) (tree_at p) key_old (expression_at t.nodes j) (subst (Named n) (sym (standing_reads s)) s.named));
   }
 
   rules_keys : RulesTied q w
@@ -398,13 +398,13 @@ module _ {p : Accepted} {t : Tables} (h : Tied p t) (k : Key) (typed : TypedKey 
   read_old : (j : ℕ) → j < n → constant_at u.constants j ≡ constant_at t.constants j
   read_old j l = rw (a.constants.kinds j l, a.constants.payloads j l)
 
-  kept_more : (j : ℕ) (c : Key) → Kept (key_of p) t.constants j c → Kept (key_of q) u.constants j c
+  kept_more : (j : ℕ) (c : Key) → Kept (key_for p) t.constants j c → Kept (key_for q) u.constants j c
   kept_more j c x = let b = h.keys.inside j c x.0 in (key_old j b ∙ x.0, λ e. x.1 (sym (read_old j b) ∙ e))
 
-  lies_more : (v : Value) (c : Key) → Lies (key_of p) t.constants v c → Lies (key_of q) u.constants v c
+  lies_more : (v : Value) (c : Key) → Lies (key_for p) t.constants v c → Lies (key_for q) u.constants v c
   lies_more v c x = record { bound = x.bound; list = go v.values x.list }
     where
-      go : (o : Option (List ℕ)) → Listed (Kept (key_of p) t.constants) c o → Listed (Kept (key_of q) u.constants) c o
+      go : (o : Option (List ℕ)) → Listed (Kept (key_for p) t.constants) c o → Listed (Kept (key_for q) u.constants) c o
       go none l = tt
       go (some x) l = (l.0, l.1, kept_more l.0 c l.2)
 
@@ -439,7 +439,7 @@ abbrev Answered : ℕ → ℕ → expressions.Tables → Type 0
 Answered n i u = (u.header.counts.expressions ≡ n) ⊎ (u.header.counts.expressions ≡ i + 1)
 
 -- a charge leaves the counts
-charged_counts : {A : Type 0} (m : Metered Stop Budget A) (s : Store) → Ends (λ _ u. u.counts.expressions ≡ s.counts.expressions) (λ _ _. Unit {0}) (charged m s)
+charged_counts : {A : Type 0} (m : Metered Stop Budget A) (s : Store) → Ends (λ _ u. u.counts.expressions ≡ s.counts.expressions) (λ _ _. Unit {0}) (billing m s)
 charged_counts m s =
     ends_through (λ u. u) (λ _ u. u) (λ _ u. u) (λ e. told (Limit e)) {P = λ _ u. u.counts.expressions ≡ s.counts.expressions} {Q = λ _ _. Unit {0}} _ s
     (ends_through _ _ _ _ m s (in_some_way _) (λ _ b _. refl) (λ _ _ _. tt)) (λ _ u h. h) (λ _ _ _. tt)
@@ -490,17 +490,17 @@ module _ (n : ℕ) (tree more : ℕ → Tree) (same : (j : ℕ) → j < n → mo
   tree_trees key (Unknown i w) h = refl
 
   module _ (arguments : ℕ) (s : Scope) (there : s.expressions ≡ n) where
-    binding_trees : (b : Binding) → BindingIn arguments s b → binding_of tree b ≡ binding_of more b
+    binding_trees : (b : Binding) → BindingIn arguments s b → plain_binding tree b ≡ plain_binding more b
     binding_trees (Positive x a) h = refl
     binding_trees (Assign x e) h = ap (assign x) (sym (same e (omega (arith, scoped_there h.1))))
     binding_trees (Range x low high) h = λ i. range x (sym (same low (omega (arith, scoped_there h.1.0))) i) (sym (same high (omega (arith, scoped_there h.1.1))) i)
     binding_trees (Aggregate x f) h = refl
 
-    guard_trees : (g : Guard) → GuardIn s g → guard_of tree g ≡ guard_of more g
+    guard_trees : (g : Guard) → GuardIn s g → plain_guard tree g ≡ plain_guard more g
     guard_trees (Compare l op r) h = λ i. compare (sym (same l (omega (arith, scoped_there h.0))) i) op (sym (same r (omega (arith, scoped_there h.1))) i)
     guard_trees (Membership x low high) h = λ i. member x (sym (same low (omega (arith, scoped_there h.1.0))) i) (sym (same high (omega (arith, scoped_there h.1.1))) i)
 
-    head_trees : (x : Head) → HeadIn arguments s x → head_of tree x ≡ head_of more x
+    head_trees : (x : Head) → HeadIn arguments s x → plain_head tree x ≡ plain_head more x
     head_trees x h = ap (λ (u : Tree). record { argument = x.argument; value = u }) (sym (same x.value (omega (arith, scoped_there h.1))))
 
 -- a rule's row names expressions that stood
@@ -530,7 +530,7 @@ module _ {p : Accepted} {t : Tables} (h : Tied p t) (e : Expression) {i : ℕ} {
   stood = t.header.counts.expressions
 
   abbrev written : Tree
-  written = tree_of (key_of p) (tree_at p) e
+  written = tree_of (key_for p) (tree_at p) e
 
   numbered : Numbered stood i u.header.counts.expressions
   numbered = go answered
@@ -550,24 +550,24 @@ module _ {p : Accepted} {t : Tables} (h : Tied p t) (e : Expression) {i : ℕ} {
       go (newly l c) = omega arith
 
   -- the expressions that stood have the trees that they had
-  entry_old : (j : ℕ) → j < stood → first later.trees j ≡ first p.trees j
+  entry_old : (j : ℕ) → j < stood → stands_for later.trees j ≡ stands_for p.trees j
   entry_old j l = go numbered
     where
-      go : Numbered stood i u.header.counts.expressions → first later.trees j ≡ first p.trees j
+      go : Numbered stood i u.header.counts.expressions → stands_for later.trees j ≡ stands_for p.trees j
       go (again b c) = let x = h.trees.has i b in first_again p.trees i written x.0 x.1 j
       go (newly b c) = first_other p.trees i written j (λ d. omega arith)
 
   tree_old : (j : ℕ) → j < stood → tree_at later j ≡ tree_at p j
   tree_old j l = ap or_nothing (entry_old j l)
 
-  tree_here : (v : Tree) × (first later.trees i ≡ some v)
-  tree_here = go (first p.trees i) refl
+  tree_here : (v : Tree) × (stands_for later.trees i ≡ some v)
+  tree_here = go (stands_for p.trees i) refl
     where
-      go : (o : Option Tree) → first p.trees i ≡ o → (v : Tree) × (first later.trees i ≡ some v)
+      go : (o : Option Tree) → stands_for p.trees i ≡ o → (v : Tree) × (stands_for later.trees i ≡ some v)
       go none f = (written, first_last p.trees i written f)
-      go (some v) f = (v, first_stays p.trees (run.entry i written ∷ []) i v f)
+      go (some v) f = (v, first_stays p.trees (run.named i written ∷ []) i v f)
 
-  tree_has : (j : ℕ) → j < u.header.counts.expressions → Numbered stood i u.header.counts.expressions → (v : Tree) × (first later.trees j ≡ some v)
+  tree_has : (j : ℕ) → j < u.header.counts.expressions → Numbered stood i u.header.counts.expressions → (v : Tree) × (stands_for later.trees j ≡ some v)
   tree_has j l b = elim (dec_lt j stood) [
     | yes m ↦ let x = h.trees.has j m in (x.0, entry_old j m ∙ x.1)
     | no m ↦ (tree_here.0, rw (last b m) tree_here.1)
@@ -579,7 +579,7 @@ module _ {p : Accepted} {t : Tables} (h : Tied p t) (e : Expression) {i : ℕ} {
 
   -- an old expression, or the one of this call
   abbrev One : ℕ → Tree → Type 0
-  One j v = (first p.trees j ≡ some v) ⊎ ((j ≡ i) × (first p.trees i ≡ none) × (v ≡ written))
+  One j v = (stands_for p.trees j ≡ some v) ⊎ ((j ≡ i) × (stands_for p.trees i ≡ none) × (v ≡ written))
 
   tree_inside : (j : ℕ) (v : Tree) → One j v → j < u.header.counts.expressions
   tree_inside j v (inl f) = omega (arith, h.trees.inside j v f, a.grows)
@@ -588,19 +588,19 @@ module _ {p : Accepted} {t : Tables} (h : Tied p t) (e : Expression) {i : ℕ} {
   below_new : Below i e
   below_new = let s = a.nested.at i a.stands in subst (Below i) (sym (standing_reads s) ∙ a.reads) s.below
 
-  tree_is : (j : ℕ) (v : Tree) → One j v → v ≡ tree_of (key_of later) (tree_at later) (expression_at u.nodes j)
+  tree_is : (j : ℕ) (v : Tree) → One j v → v ≡ tree_of (key_for later) (tree_at later) (expression_at u.nodes j)
   tree_is j v (inl f) =
       let l = h.trees.inside j v f in
       let s = h.reached.nested.at j l in
       h.trees.is j v f
       ∙ sym
-      (ap (tree_of (key_of p) (tree_at later)) (a.expressions j l)
-      ∙ tree_trees j (tree_at p) (tree_at later) (λ c b. tree_old c (omega arith)) (key_of p) (expression_at t.nodes j) (subst (Below j) (sym (standing_reads s)) s.below))
+      (ap (tree_of (key_for p) (tree_at later)) (a.expressions j l)
+      ∙ tree_trees j (tree_at p) (tree_at later) (λ c b. tree_old c (omega arith)) (key_for p) (expression_at t.nodes j) (subst (Below j) (sym (standing_reads s)) s.below))
   tree_is j v (inr f) =
       f.2
       ∙ sym
-      (ap (tree_of (key_of p) (tree_at later)) (ap (expression_at u.nodes) f.0 ∙ a.reads)
-      ∙ tree_trees i (tree_at p) (tree_at later) (λ c b. tree_old c (omega (arith, most))) (key_of p) e below_new)
+      (ap (tree_of (key_for p) (tree_at later)) (ap (expression_at u.nodes) f.0 ∙ a.reads)
+      ∙ tree_trees i (tree_at p) (tree_at later) (λ c b. tree_old c (omega (arith, most))) (key_for p) e below_new)
 
   -- the rest of the header
   constants_same : u.header.counts.constants ≡ t.header.counts.constants

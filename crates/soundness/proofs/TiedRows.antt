@@ -41,7 +41,7 @@ use Rattle.keys.specs.Key as keys
 use Rattle.store.specs.declared.Counts.{Counts}
 use Rattle.store.specs.declared.Store.{Store}
 use Rattle.store.specs.Store.{with_budget, with_thresholds}
-use Rattle.store.specs.Calls.{open?, charged, Marks, marks, entering, first_of, arity_of, context_call, work_call, argument_call, predicate_call}
+use Rattle.store.specs.Calls.{open?, billing, Marks, marks, entering, first_argument, arity_of, context_call, work_call, argument_call, predicate_call}
 use Rattle.store.specs.Calls as store
 use Rattle.store.proofs.Frame.{spends_work, pays}
 use Rattle.thresholds.specs.Thresholds.{entry, around}
@@ -66,9 +66,9 @@ use Rattle.input.proofs.Left.{on_ends_lem, Leaves, number_known}
 use Rattle.input.proofs.Calls.{Keeps, context_keeps, work_keeps, argument_keeps}
 use Rattle.input.proofs.SeedCalls.{predicate_keeps, seed_value_keeps, seed_interval_keeps}
 use Rattle.input.proofs.RuleCalls.{rule_keeps}
-use Rattle.soundness.specs.Plain.{Proper}
-use Rattle.soundness.specs.Tied.{binding_of, guard_of, head_of, Constants}
-use Rattle.soundness.specs.Run.{Accepted, accepted, Seed, one, range, PlainRule, key_of, tree_at, rule_of, seed_of, Gives, said}
+use Rattle.soundness.specs.Plain.{ProperKey}
+use Rattle.soundness.specs.Tied.{plain_binding, plain_guard, plain_head, Constants}
+use Rattle.soundness.specs.Run.{Accepted, accepted, Seed, one, range, PlainRule, key_for, tree_at, rule_of, seed_of, SeedGives, said}
 use Rattle.soundness.proofs.Lies.{number_of, Kept, Lies, numeric_lies}
 use Rattle.soundness.proofs.Grounded.{Stored, Inside}
 use Rattle.soundness.proofs.Ties.{Tied, Same, with_rows, tied_rows, stored_rows, inside_rows, Still, tied_still}
@@ -138,7 +138,7 @@ argument_ties q i p t h =
     ends_test (open? t.header)
     (λ _.
     ends_test (ltb q 64 && ltb q t.header.counts.predicates)
-    (λ _. ends_test (ltb i (arity_of t.predicates q)) (λ _. ends_pure (first_of t.predicates q + i) t.header refl) (λ _. stops tt))
+    (λ _. ends_test (ltb i (arity_of t.predicates q)) (λ _. ends_pure (first_argument t.predicates q + i) t.header refl) (λ _. stops tt))
     (λ _. stops tt))
     (λ _. stops tt))
     (λ _. stops tt))
@@ -223,21 +223,21 @@ module _ {p : Accepted} {t u : Tables} {a : ℕ} {v : Value} (h : Tied p t) (w :
     | yes e ↦ record {
       below = omega (arith, i.below, w.position_count);
       proper = i.proper;
-      lies = rw (e, w.joined, w.same.constants) (joined_lies (key_of p) t.constants w.width (value_at t.seeds a) v k (inl (rw e at i.lies)));
+      lies = rw (e, w.joined, w.same.constants) (joined_lies (key_for p) t.constants w.width (value_at t.seeds a) v k (inl (rw e at i.lies)));
     }
     | no d ↦ inside_rows h w.same seeds p.rules (omega (arith, w.position_count)) (w.others b d) i
   ]
 
   -- and so does what lies in the value
-  sown_new : (b : ℕ) (k : Key) → b ≡ a → Proper k → Lies (key_of p) t.constants v k → Inside after u u.seeds b k
+  sown_new : (b : ℕ) (k : Key) → b ≡ a → ProperKey k → Lies (key_for p) t.constants v k → Inside after u u.seeds b k
   sown_new b k e q i = record {
     below = omega (arith, w.inside, w.position_count);
     proper = q;
-    lies = rw (e, w.joined, w.same.constants) (joined_lies (key_of p) t.constants w.width (value_at t.seeds a) v k (inr i));
+    lies = rw (e, w.joined, w.same.constants) (joined_lies (key_for p) t.constants w.width (value_at t.seeds a) v k (inr i));
   }
 
 sown_tied : {p : Accepted} {t u : Tables} {a : ℕ} {v : Value} (h : Tied p t) → Sown a v t u → (more : List Seed) →
-    ((s : Seed) (b : ℕ) (k : Key) → Memᴰ s more → Gives s b k → (b ≡ a) × (Proper k × Lies (key_of p) t.constants v k)) →
+    ((s : Seed) (b : ℕ) (k : Key) → Memᴰ s more → SeedGives s b k → (b ≡ a) × (ProperKey k × Lies (key_for p) t.constants v k)) →
     Reached u → All Number u.thresholds → Tied (accepted p.keys p.trees (p.seeds ++ more) p.rules) u
 sown_tied {p} {t} {u} {a} {v} h w more gives r n =
     tied_rows h w.same (p.seeds ++ more) p.rules r n (record { at = λ x m. stored_rows h w.same (p.seeds ++ more) p.rules w.rules w.rule_count (h.rules.at x m) })
@@ -251,10 +251,10 @@ sown_tied {p} {t} {u} {a} {v} h w more gives r n =
 
 -- ---- `seed_value`
 
-module _ (constants : (p : Accepted) (t : Tables) → Tied p t → Constants (key_of p) t.constants) where
+module _ (constants : (p : Accepted) (t : Tables) → Tied p t → Constants (key_for p) t.constants) where
   value_leads : (a k : ℕ) (p : Accepted) (t : Tables) → Tied p t → {u : seeds.Tables} → ValueTaken t.constants a k (for_value t) u → Reached (from_value u t) →
-      Tied (accepted p.keys p.trees (p.seeds ++ seed_of a (key_of p k)) p.rules) (from_value u t)
-  value_leads a k p t h {u} x r = sown_tied h sown (seed_of a (key_of p k)) (gives (key_of p k) refl) r h.numbers
+      Tied (accepted p.keys p.trees (p.seeds ++ seed_of a (key_for p k)) p.rules) (from_value u t)
+  value_leads a k p t h {u} x r = sown_tied h sown (seed_of a (key_for p k)) (gives (key_for p k) refl) r h.numbers
     where
       width : ℕ
       width = t.header.budget.limits.width
@@ -277,12 +277,12 @@ module _ (constants : (p : Accepted) (t : Tables) → Tied p t → Constants (ke
           }
 
       -- the seed of a constant that stands for a key
-      one_gives : (j : Key) → key_of p k ≡ some j → (s : Seed) (b : ℕ) (v : Key) → s ≡ one a j → Gives s b v → (b ≡ a) × (Proper v × Lies (key_of p) t.constants value v)
+      one_gives : (j : Key) → key_for p k ≡ some j → (s : Seed) (b : ℕ) (v : Key) → s ≡ one a j → SeedGives s b v → (b ≡ a) × (ProperKey v × Lies (key_for p) t.constants value v)
       one_gives j e s b v f g =
-          let z : (b ≡ a) × (v ≡ j) = subst (λ (y : Seed). Gives y b v) f g in
-          (z.0, (rw z.1 (h.keys.proper k j e), rw z.1 (seed_lies (key_of p) t.constants (constants p t h) k width j e)))
+          let z : (b ≡ a) × (v ≡ j) = subst (λ (y : Seed). SeedGives y b v) f g in
+          (z.0, (rw z.1 (h.keys.proper k j e), rw z.1 (seed_lies (key_for p) t.constants (constants p t h) k width j e)))
 
-      gives : (o : Option Key) → key_of p k ≡ o → (s : Seed) (b : ℕ) (v : Key) → Memᴰ s (seed_of a o) → Gives s b v → (b ≡ a) × (Proper v × Lies (key_of p) t.constants value v)
+      gives : (o : Option Key) → key_for p k ≡ o → (s : Seed) (b : ℕ) (v : Key) → Memᴰ s (seed_of a o) → SeedGives s b v → (b ≡ a) × (ProperKey v × Lies (key_for p) t.constants value v)
       gives none e s b v m g = absurd (Memᴰ.not-nil m)
       gives (some j) e s b v m g = one_gives j e s b v (Memᴰ.eq_of_singleton m) g
 
@@ -321,13 +321,13 @@ module _ (a : ℕ) (low high : ℤ) (l : Number low) (g : Number high) where
   interval_numbered : (t : seeds.IntervalTables) → All Number t.thresholds → Ends (λ _ u. All Number u.thresholds) (λ _ u. All Number u.thresholds) (seed_interval_call a low high t)
   unfolding seed_interval_call
   interval_numbered t h =
-      ends_test (eqb (length t.thresholds) size.thresholds && seeds.sizes (length t.seeds) (length t.records))
+      ends_test (eqb (length t.thresholds) size.thresholds && seeds.sized (length t.seeds) (length t.records))
       (λ _.
       ends_test (open? t.header)
       (λ _.
       ends_test (leb t.header.counts.thresholds size.thresholds_before_call && seeds.spacious t.header)
       (λ _.
-      ends_then _ _ t (tables_numbered (seeds.in_header (charged (work 1))) t h)
+      ends_then _ _ t (tables_numbered (seeds.in_header (billing (work 1))) t h)
       (λ _ u k.
       ends_test (le_z low high)
       (λ _.
@@ -353,7 +353,7 @@ module _ (a : ℕ) (low high : ℤ) (l : Number low) (g : Number high) where
 module _ (a : ℕ) (low high : ℤ) (l : Number low) (g : Number high) (p : Accepted) (t : Tables) (h : Tied p t) where
   interval_leads : {u : seeds.IntervalTables} → IntervalTaken t.constants a low high (for_interval t) u → All Number u.thresholds → Reached (from_interval u t) →
       Tied (accepted p.keys p.trees (p.seeds ++ (range a low high ∷ [])) p.rules) (from_interval u t)
-  interval_leads {u} x n r = sown_tied h sown (range a low high ∷ []) (λ s b v m y. gives b v (subst (λ (z : Seed). Gives z b v) (Memᴰ.eq_of_singleton m) y)) r n
+  interval_leads {u} x n r = sown_tied h sown (range a low high ∷ []) (λ s b v m y. gives b v (subst (λ (z : Seed). SeedGives z b v) (Memᴰ.eq_of_singleton m) y)) r n
     where
       sown : Sown a (numeric (Bounded low high)) t (from_interval u t)
       sown =
@@ -372,10 +372,10 @@ module _ (a : ℕ) (low high : ℤ) (l : Number low) (g : Number high) (p : Acce
       between : (z : ℤ) → Between low high z → Number z
       between z b = (omega (arith, l.0, b.0), omega (arith, g.1, b.1))
 
-      gives : (b : ℕ) (v : Key) → Gives (range a low high) b v → (b ≡ a) × (Proper v × Lies (key_of p) t.constants (numeric (Bounded low high)) v)
+      gives : (b : ℕ) (v : Key) → SeedGives (range a low high) b v → (b ≡ a) × (ProperKey v × Lies (key_for p) t.constants (numeric (Bounded low high)) v)
       gives b v y =
           let q = between y.1.0 y.1.2 in
-          (y.0, (rw y.1.1 q, rw y.1.1 (numeric_lies (key_of p) t.constants (Bounded low high) y.1.0 q y.1.2)))
+          (y.0, (rw y.1.1 q, rw y.1.1 (numeric_lies (key_for p) t.constants (Bounded low high) y.1.0 q y.1.2)))
 
   pub seed_interval_ties : Ends (λ r u. Tied (said p (input.seed_interval a low high) r) u) (λ _ u. Tied p u) (call (input.seed_interval a low high) t)
   unfolding call
@@ -422,18 +422,18 @@ module _ (q : Rule) (whole : Whole q) (p : Accepted) (t : Tables) (h : Tied p t)
           record {
             id = z.id;
             below = omega (arith, z.below, count);
-            bindings = z.bindings ∙ ap (map (binding_of (tree_at p))) (sym (bindings_stay w b));
-            guards = z.guards ∙ ap (map (guard_of (tree_at p))) (sym (guards_stay w b));
-            heads = z.heads ∙ ap (map (head_of (tree_at p))) (sym (heads_stay w b));
+            bindings = z.bindings ∙ ap (map (plain_binding (tree_at p))) (sym (bindings_stay w b));
+            guards = z.guards ∙ ap (map (plain_guard (tree_at p))) (sym (guards_stay w b));
+            heads = z.heads ∙ ap (map (plain_head (tree_at p))) (sym (heads_stay w b));
           }
 
       newest : Stored ruled (from_rule u t) (rule_of p q)
       newest = record {
         id = i;
         below = omega (arith, count, a.next);
-        bindings = sym (ap (map (binding_of (tree_at p))) (a.back.all_bindings (omega (arith, whole.0, a.inside.short.bindings))));
-        guards = sym (ap (map (guard_of (tree_at p))) (a.back.all_guards (omega (arith, whole.1.0, a.inside.short.guards))));
-        heads = sym (ap (map (head_of (tree_at p))) (a.back.all_heads (omega (arith, whole.1.1, a.inside.short.heads))));
+        bindings = sym (ap (map (plain_binding (tree_at p))) (a.back.all_bindings (omega (arith, whole.0, a.inside.short.bindings))));
+        guards = sym (ap (map (plain_guard (tree_at p))) (a.back.all_guards (omega (arith, whole.1.0, a.inside.short.guards))));
+        heads = sym (ap (map (plain_head (tree_at p))) (a.back.all_heads (omega (arith, whole.1.1, a.inside.short.heads))));
       }
 
   pub rule_ties : Ends (λ r u. Tied (said p (input.rule q) r) u) (λ _ u. Tied p u) (call (input.rule q) t)

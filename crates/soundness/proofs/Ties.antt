@@ -12,25 +12,25 @@ use Rattle.keys.specs.Key.{Key, name, key_at}
 use Rattle.nodes.specs.Node.{expression_at}
 use Rattle.input.specs.Input.{Tables}
 use Rattle.input.proofs.Reached.{Reached}
-use Rattle.soundness.specs.Plain.{Tree, Proper}
+use Rattle.soundness.specs.Plain.{Tree, ProperKey}
 use Rattle.soundness.specs.Tied.{tree_of}
-use Rattle.soundness.specs.Run.{Accepted, PlainRule, Seed, accepted, first, key_of, tree_at, Seeded}
+use Rattle.soundness.specs.Run.{Accepted, PlainRule, Seed, accepted, stands_for, key_for, tree_at, Seeded}
 use Rattle.soundness.proofs.Grounded.{Stored, Inside}
 
 -- every constant has a key: a retained one reads as its key, and one that is not is a name
 pub record KeysTied (p : Accepted) (t : Tables) : Type 0 where
-  pub has : (i : ℕ) → i < t.header.counts.constants → (k : Key) × (key_of p i ≡ some k)
-  pub inside : (i : ℕ) (k : Key) → key_of p i ≡ some k → i < t.header.counts.constants
-  pub kept : (i : ℕ) (k : Key) → key_of p i ≡ some k → Retained t.constants i → key_at t.names t.constants i ≡ k
-  pub large : (i : ℕ) (k : Key) → key_of p i ≡ some k → (Retained t.constants i → ⊥) → (s : List ℕ) × (k ≡ name s)
-  pub proper : (i : ℕ) (k : Key) → key_of p i ≡ some k → Proper k
+  pub has : (i : ℕ) → i < t.header.counts.constants → (k : Key) × (key_for p i ≡ some k)
+  pub inside : (i : ℕ) (k : Key) → key_for p i ≡ some k → i < t.header.counts.constants
+  pub kept : (i : ℕ) (k : Key) → key_for p i ≡ some k → Retained t.constants i → key_at t.names t.constants i ≡ k
+  pub large : (i : ℕ) (k : Key) → key_for p i ≡ some k → (Retained t.constants i → ⊥) → (s : List ℕ) × (k ≡ name s)
+  pub proper : (i : ℕ) (k : Key) → key_for p i ≡ some k → ProperKey k
   pub cells : All (λ c. c < 2 ^ 32) t.constants
 
 -- every expression has a tree, which is what its row says with trees for its children
 pub record TreesTied (p : Accepted) (t : Tables) : Type 0 where
-  pub has : (i : ℕ) → i < t.header.counts.expressions → (u : Tree) × (first p.trees i ≡ some u)
-  pub inside : (i : ℕ) (u : Tree) → first p.trees i ≡ some u → i < t.header.counts.expressions
-  pub is : (i : ℕ) (u : Tree) → first p.trees i ≡ some u → u ≡ tree_of (key_of p) (tree_at p) (expression_at t.nodes i)
+  pub has : (i : ℕ) → i < t.header.counts.expressions → (u : Tree) × (stands_for p.trees i ≡ some u)
+  pub inside : (i : ℕ) (u : Tree) → stands_for p.trees i ≡ some u → i < t.header.counts.expressions
+  pub is : (i : ℕ) (u : Tree) → stands_for p.trees i ≡ some u → u ≡ tree_of (key_for p) (tree_at p) (expression_at t.nodes i)
 
 pub record RulesTied (p : Accepted) (t : Tables) : Type 0 where
   pub at : (r : PlainRule) → Memᴰ r p.rules → Stored p t r

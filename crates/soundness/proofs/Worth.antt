@@ -15,7 +15,7 @@ use Rattle.nodes.specs.declared.Expression.{Expression}
 use Rattle.nodes.specs.declared.Expression.TheVariants.{Constant, Slot, Unary, Absolute, Binary, Unknown}
 use Rattle.nodes.specs.Node.{expression_at}
 use Rattle.lattice.specs.Value.{Value}
-use Rattle.soundness.specs.Plain.{Tree, nothing, constant, slot, unary, absolute, binary, unknown, Opaque, Choice, into, chosen, fitting, on_number, on_numbers, magnitude, apply_one, apply_two, worth, Proper}
+use Rattle.soundness.specs.Plain.{Tree, nothing, constant, slot, unary, absolute, binary, unknown, Opaque, Choice, into, chosen, fitting, on_number, on_numbers, magnitude, apply_one, apply_two, worth, ProperKey}
 use Rattle.soundness.specs.Tied.{key_tree, tree_of, Constants, Trees}
 use Rattle.soundness.proofs.Lies.{Lies}
 
@@ -30,10 +30,10 @@ pub record Scene : Type 0 where
   pub keys : Constants key constants
   pub trees : Trees key tree nodes
   pub slots : ℕ → Key
-  pub proper : (s : ℕ) → Proper (slots s)
+  pub proper : (s : ℕ) → ProperKey (slots s)
 
 pub record ProperChoice (ch : Choice) : Type 0 where
-  pub at : (path : List ℕ) → Proper (ch path)
+  pub at : (path : List ℕ) → ProperKey (ch path)
 
 pub proper_into : {ch : Choice} (k : ℕ) → ProperChoice ch → ProperChoice (into k ch)
 proper_into k h = record { at = λ path. h.at (k ∷ path) }
@@ -102,28 +102,28 @@ results f (some (number m)) b k e =
 
 -- ---- numbers have 32 bits
 
-chosen_proper : (b : Bool) (c k : Key) → Proper c → chosen b c ≡ some k → Proper k
-chosen_proper true (number z) k p e = subst Proper (some_is e) p
+chosen_proper : (b : Bool) (c k : Key) → ProperKey c → chosen b c ≡ some k → ProperKey k
+chosen_proper true (number z) k p e = subst ProperKey (some_is e) p
 chosen_proper true (name s) k p e = absurd (none_some e)
-chosen_proper false c k p e = subst Proper (some_is e) p
+chosen_proper false c k p e = subst ProperKey (some_is e) p
 
-pub worth_proper : (w : Scene) (ch : Choice) → ProperChoice ch → (id : ℕ) (k : Key) → Worth w ch id k → Proper k
+pub worth_proper : (w : Scene) (ch : Choice) → ProperChoice ch → (id : ℕ) (k : Key) → Worth w ch id k → ProperKey k
 unfolding worth
 worth_proper w ch pch id k =
-    at_tree w (λ (t : Tree). worth w.opaque w.slots ch t ≡ some k → Proper k) id (λ e. absurd (none_some e)) (of (expression_at w.nodes id))
+    at_tree w (λ (t : Tree). worth w.opaque w.slots ch t ≡ some k → ProperKey k) id (λ e. absurd (none_some e)) (of (expression_at w.nodes id))
   where
-    by_key : (c : ℕ) (q : Option Key) → w.key c ≡ q → worth w.opaque w.slots ch (key_tree q) ≡ some k → Proper k
+    by_key : (c : ℕ) (q : Option Key) → w.key c ≡ q → worth w.opaque w.slots ch (key_tree q) ≡ some k → ProperKey k
     by_key c none f e = absurd (none_some e)
-    by_key c (some j) f e = subst Proper (some_is e) (w.keys.proper c j f)
+    by_key c (some j) f e = subst ProperKey (some_is e) (w.keys.proper c j f)
 
-    of : (e : Expression) → worth w.opaque w.slots ch (tree_of w.key w.tree e) ≡ some k → Proper k
+    of : (e : Expression) → worth w.opaque w.slots ch (tree_of w.key w.tree e) ≡ some k → ProperKey k
     of (Constant c) e = by_key c (w.key c) refl e
-    of (Slot s) e = subst Proper (some_is e) (w.proper s)
-    of (Unary op a) e = let r = result (apply_one w.opaque op) (worth w.opaque w.slots (into 0 ch) (w.tree a)) k e in subst Proper (sym r.is) r.fits
-    of (Absolute a) e = let r = result (λ n. some (magnitude n)) (worth w.opaque w.slots (into 0 ch) (w.tree a)) k e in subst Proper (sym r.is) r.fits
+    of (Slot s) e = subst ProperKey (some_is e) (w.proper s)
+    of (Unary op a) e = let r = result (apply_one w.opaque op) (worth w.opaque w.slots (into 0 ch) (w.tree a)) k e in subst ProperKey (sym r.is) r.fits
+    of (Absolute a) e = let r = result (λ n. some (magnitude n)) (worth w.opaque w.slots (into 0 ch) (w.tree a)) k e in subst ProperKey (sym r.is) r.fits
     of (Binary op a b) e =
         let r = results (apply_two w.opaque op) (worth w.opaque w.slots (into 0 ch) (w.tree a)) (worth w.opaque w.slots (into 1 ch) (w.tree b)) k e in
-        subst Proper (sym r.is) r.fits
+        subst ProperKey (sym r.is) r.fits
     of (Unknown i reason) e = chosen_proper i (ch []) k (pch.at []) e
 
 -- ---- a tree without Unknown

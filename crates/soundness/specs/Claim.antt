@@ -16,7 +16,7 @@ use Rattle.input.specs.Input as input
 use Rattle.numeric.specs.Step.{Call, store, run, context_count, slot, status, value, State, event, play, fresh}
 use Rattle.numeric.specs.Step as calls
 use Rattle.soundness.specs.Plain.{Opaque}
-use Rattle.soundness.specs.Run.{Accepted, key_of, heard, Firing, Reaches}
+use Rattle.soundness.specs.Run.{Accepted, key_for, heard, Firing, Reaches}
 
 -- ---- what lies in a reading
 
@@ -27,7 +27,7 @@ LiesInBound (name s) b = HasNames b.integrality
 -- where a list is kept
 abbrev pub LiesInList : Accepted → Key → Option (List ℕ) → Type 0
 LiesInList p k none = Unit {0}
-LiesInList p k (some l) = (i : ℕ) × Memᴰ i l × (key_of p i ≡ some k)
+LiesInList p k (some l) = (i : ℕ) × Memᴰ i l × (key_for p i ≡ some k)
 
 pub record LiesIn (p : Accepted) (k : Key) (v : Value) : Type 0 where
   pub bound : LiesInBound k v.bound

@@ -15,9 +15,9 @@ use Rattle.rules.specs.declared.Relation.TheVariants.{Lt, Le, Gt, Ge, Eq, Neq}
 
 -- ---- "A value is a key of the reader; a constant is its key." "A number here has 32 signed bits."
 
-abbrev pub Proper : Key → Type 0
-Proper (number z) = Number z
-Proper (name s) = Unit {0}
+abbrev pub ProperKey : Key → Type 0
+ProperKey (number z) = Number z
+ProperKey (name s) = Unit {0}
 
 -- ---- what an expression's id stands for
 
@@ -118,8 +118,8 @@ pub record PlainHead : Type 0 where
 -- ---- what holds
 
 -- "The state is a set of values for each argument"
-abbrev pub State : Type 1
-State = ℕ → Key → Type 0
+abbrev pub PlainState : Type 1
+PlainState = ℕ → Key → Type 0
 
 -- "Comparisons go by the reader's order."
 abbrev pub Related : Relation → Key → Key → Type 0
@@ -149,7 +149,7 @@ Aggregated Min k = Unit {0}
 Aggregated Max k = Unit {0}
 
 -- "An assignment or guard with a valueless operand fails"
-abbrev pub BindingHolds : Opaque → State → (ℕ → Key) → Choice → PlainBinding → Type 0
+abbrev pub BindingHolds : Opaque → PlainState → (ℕ → Key) → Choice → PlainBinding → Type 0
 BindingHolds o s x ch (positive i argument) = s argument (x i)
 BindingHolds o s x ch (assign i e) = worth o x (into 0 ch) e ≡ some (x i)
 BindingHolds o s x ch (range i low high) = Within (worth o x (into 0 ch) low) (worth o x (into 1 ch) high) (x i)
@@ -175,18 +175,18 @@ AllHold H ch (a ∷ l) = H (into 0 ch) a × AllHold H (into 1 ch) l
 pub record Choices : Type 0 where
   pub slots : ℕ → Key
   pub choice : Choice
-  pub proper_slots : (s : ℕ) → Proper (slots s)
-  pub proper_choice : (path : List ℕ) → Proper (choice path)
+  pub proper_slots : (s : ℕ) → ProperKey (slots s)
+  pub proper_choice : (path : List ℕ) → ProperKey (choice path)
 
 -- "The rule fires when all bindings and guards hold"
-pub record Fires (o : Opaque) (s : State) (f : Choices) (bs : List PlainBinding) (gs : List PlainGuard) : Type 0 where
+pub record Fires (o : Opaque) (s : PlainState) (f : Choices) (bs : List PlainBinding) (gs : List PlainGuard) : Type 0 where
   pub bindings : AllHold (BindingHolds o s f.slots) (into 0 f.choice) bs
   pub guards : AllHold (GuardHolds o f.slots) (into 1 f.choice) gs
 
 -- "Each head with a value adds it."
-abbrev pub Gives : Opaque → (ℕ → Key) → Choice → PlainHead → ℕ → Key → Type 0
-Gives o x ch h a k = (h.argument ≡ a) × (worth o x ch h.value ≡ some k)
+abbrev pub HeadGives : Opaque → (ℕ → Key) → Choice → PlainHead → ℕ → Key → Type 0
+HeadGives o x ch h a k = (h.argument ≡ a) × (worth o x ch h.value ≡ some k)
 
 abbrev pub HeadsGive : Opaque → (ℕ → Key) → Choice → List PlainHead → ℕ → Key → Type 0
 HeadsGive o x ch [] a k = ⊥
-HeadsGive o x ch (h ∷ l) a k = Gives o x (into 0 ch) h a k ⊎ HeadsGive o x (into 1 ch) l a k
+HeadsGive o x ch (h ∷ l) a k = HeadGives o x (into 0 ch) h a k ⊎ HeadsGive o x (into 1 ch) l a k

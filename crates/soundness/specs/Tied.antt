@@ -14,7 +14,7 @@ use Rattle.rules.specs.declared.Binding.TheVariants.{Positive, Assign, Range, Ag
 use Rattle.rules.specs.declared.Guard.{Guard}
 use Rattle.rules.specs.declared.Guard.TheVariants.{Compare, Membership}
 use Rattle.rules.specs.declared.Head.{Head}
-use Rattle.soundness.specs.Plain.{Tree, nothing, constant, slot, unary, absolute, binary, unknown, Proper, PlainBinding, positive, assign, range, aggregate, PlainGuard, compare, member, PlainHead}
+use Rattle.soundness.specs.Plain.{Tree, nothing, constant, slot, unary, absolute, binary, unknown, ProperKey, PlainBinding, positive, assign, range, aggregate, PlainGuard, compare, member, PlainHead}
 
 -- ---- what a call says, with trees for ids
 
@@ -30,18 +30,18 @@ tree_of key tree (Absolute e) = absolute (tree e)
 tree_of key tree (Binary op l r) = binary op (tree l) (tree r)
 tree_of key tree (Unknown integer reason) = unknown integer
 
-abbrev pub binding_of : (ℕ → Tree) → Binding → PlainBinding
-binding_of tree (Positive s a) = positive s a
-binding_of tree (Assign s e) = assign s (tree e)
-binding_of tree (Range s low high) = range s (tree low) (tree high)
-binding_of tree (Aggregate s f) = aggregate s f
+abbrev pub plain_binding : (ℕ → Tree) → Binding → PlainBinding
+plain_binding tree (Positive s a) = positive s a
+plain_binding tree (Assign s e) = assign s (tree e)
+plain_binding tree (Range s low high) = range s (tree low) (tree high)
+plain_binding tree (Aggregate s f) = aggregate s f
 
-abbrev pub guard_of : (ℕ → Tree) → Guard → PlainGuard
-guard_of tree (Compare l relation r) = compare (tree l) relation (tree r)
-guard_of tree (Membership s low high) = member s (tree low) (tree high)
+abbrev pub plain_guard : (ℕ → Tree) → Guard → PlainGuard
+plain_guard tree (Compare l relation r) = compare (tree l) relation (tree r)
+plain_guard tree (Membership s low high) = member s (tree low) (tree high)
 
-abbrev pub head_of : (ℕ → Tree) → Head → PlainHead
-head_of tree h = record { argument = h.argument; value = tree h.value }
+abbrev pub plain_head : (ℕ → Tree) → Head → PlainHead
+plain_head tree h = record { argument = h.argument; value = tree h.value }
 
 -- ---- the ties
 
@@ -50,7 +50,7 @@ pub record Constants (key : ℕ → Option Key) (cells : List ℕ) : Type 0 wher
   pub numbers : (i : ℕ) (z : ℤ) → key i ≡ some (keys.number z) → constant_at cells i ≡ number z
   pub names : (i : ℕ) (s : List ℕ) → key i ≡ some (name s) → (constant_at cells i ≡ Name) ⊎ (constant_at cells i ≡ Large)
   pub one : (i j : ℕ) (k : Key) → key i ≡ some k → key j ≡ some k → (constant_at cells i ≡ Large → ⊥) → (constant_at cells j ≡ Large → ⊥) → i ≡ j
-  pub proper : (i : ℕ) (k : Key) → key i ≡ some k → Proper k
+  pub proper : (i : ℕ) (k : Key) → key i ≡ some k → ProperKey k
   pub short : (i : ℕ) (k : Key) → key i ≡ some k → i < 2 ^ 16
 
 -- an id stands for nothing, or for what the expressions' table has there

@@ -25,7 +25,7 @@ use Rattle.lattice.specs.Lattice.{bottom}
 use Rattle.rows.specs.Row.{put}
 use Rattle.store.specs.declared.Store.{Store}
 use Rattle.store.specs.Store.{admits, with_budget, with_thresholds, with_predicate}
-use Rattle.store.specs.Calls.{unless, charged, marks, entering, declared, bottoms, room_for, tables, predicate_call, first_of, arity_of, argument_call}
+use Rattle.store.specs.Calls.{unless, billing, marks, entering, declared, bottoms, room_for, tables, predicate_call, first_argument, arity_of, argument_call}
 
 -- ---- a test that refuses
 
@@ -39,17 +39,17 @@ module _ {S A : Type 0} (p : S → Bool) (r : Refusal) (m : Metered Told S A) (s
 -- ---- what a call charges
 
 module _ {A : Type 0} (m : Metered Stop Budget A) (s : Store) where
-  pub charge_on : {a : A} {b : Budget} → going a b ≡ m s.budget → going a (with_budget b s) ≡ charged m s
+  pub charge_on : {a : A} {b : Budget} → going a b ≡ m s.budget → going a (with_budget b s) ≡ billing m s
   unfolding through mapped
   charge_on h = rw (← h)
 
-  pub charge_off : {e : Stop} {b : Budget} → stopped e b ≡ m s.budget → stopped (told (Limit e)) (with_budget b s) ≡ charged m s
+  pub charge_off : {e : Stop} {b : Budget} → stopped e b ≡ m s.budget → stopped (told (Limit e)) (with_budget b s) ≡ billing m s
   unfolding through mapped
   charge_off h = rw (← h)
 
 -- one charge after another
 module _ {A B : Type 0} (m : Metered Stop Budget A) (n : Metered Stop Budget B) (s : Store) where
-  pub charged_then_stop : {f : Told} {u : Store} → stopped f u ≡ charged m s → stopped f u ≡ charged (m >> n) s
+  pub charged_then_stop : {f : Told} {u : Store} → stopped f u ≡ billing m s → stopped f u ≡ billing (m >> n) s
   unfolding through mapped ◌>>◌ ◌>>=◌ after
   charged_then_stop {f} {u} h = go (m s.budget) h
     where
@@ -58,7 +58,7 @@ module _ {A B : Type 0} (m : Metered Stop Budget A) (n : Metered Stop Budget B) 
       go (going a b) q = let z : ◌≡◌ {A = ℕ} 0 1 = cc in absurd (omega arith)
       go (stopped t b) q = cc
 
-  pub charged_then_on : {a : A} {u : Store} → going a u ≡ charged m s → {y : Run Told Store B} → y ≡ charged n u → y ≡ charged (m >> n) s
+  pub charged_then_on : {a : A} {u : Store} → going a u ≡ billing m s → {y : Run Told Store B} → y ≡ billing n u → y ≡ billing (m >> n) s
   unfolding through mapped ◌>>◌ ◌>>=◌ after
   charged_then_on {a} {u} h {y} k = go (m s.budget) h
     where
@@ -101,7 +101,7 @@ bottoms_none seeds from = refl
 -- ---- an argument
 
 module _ (p i : ℕ) (rows : List ℕ) (s : Store) (n : length rows ≡ size.predicate_cells) {t : Bool} (h : t ≡ admits s.phase) (o : t ≡ true) (e : p < 64) (f : p < s.counts.predicates) where
-  pub argument_id : {arity first : ℕ} → arity ≡ arity_of rows p → i < arity → first ≡ first_of rows p → going (first + i) s ≡ argument_call p i rows s
+  pub argument_id : {arity first : ℕ} → arity ≡ arity_of rows p → i < arity → first ≡ first_argument rows p → going (first + i) s ≡ argument_call p i rows s
   unfolding argument_call pure
   argument_id {arity} a g q = rw (eq-eqb (length rows) size.predicate_cells n, ← h, o, lt-ltb p 64 e, lt-ltb p s.counts.predicates f, ← a, lt-ltb i arity g, q)
 
@@ -115,7 +115,7 @@ room_yes p n arity q e =
 -- ---- a predicate
 
 -- a charge leaves a header with another budget, so the counts of rows and the context as they were
-module _ (m : Metered Stop Budget (Unit {0})) (s : Store) {t : Store} (h : going tt t ≡ charged m s) where
+module _ (m : Metered Stop Budget (Unit {0})) (s : Store) {t : Store} (h : going tt t ≡ billing m s) where
   charged_budget : (b : Budget) × (t ≡ with_budget b s)
   charged_budget =
       let o = came (λ u. u) (λ _ u. u) (λ _ u. u) (λ e. told (Limit e)) _ s h in
@@ -149,22 +149,22 @@ module _ (arity : ℕ) (s : Store) (rows seeds : List ℕ) where
         predicate_full e = rw (eq-eqb (length rows) size.predicate_cells n, eq-eqb (length seeds) size.argument_cells k, ← h, o, ← q, e)
 
         module _ (y : f ≡ true) where
-          pub predicate_work : (r : Refusal) {u : Store} → stopped (told r) u ≡ charged (work 1) s → stopped (told r) (tables u rows seeds) ≡ predicate_call arity (tables s rows seeds)
+          pub predicate_work : (r : Refusal) {u : Store} → stopped (told r) u ≡ billing (work 1) s → stopped (told r) (tables u rows seeds) ≡ predicate_call arity (tables s rows seeds)
           unfolding predicate_call
-          predicate_work r p = rw (eq-eqb (length rows) size.predicate_cells n, eq-eqb (length seeds) size.argument_cells k, ← h, o, ← q, y) (then_stop _ _ _ (through_stop _ _ _ _ (charged (work 1)) (tables s rows seeds) p))
+          predicate_work r p = rw (eq-eqb (length rows) size.predicate_cells n, eq-eqb (length seeds) size.argument_cells k, ← h, o, ← q, y) (then_stop _ _ _ (through_stop _ _ _ _ (billing (work 1)) (tables s rows seeds) p))
 
-          module _ {u : Store} (p : going tt u ≡ charged (work 1) s) where
-            pub predicate_declare : (r : Refusal) {v : Store} → stopped (told r) v ≡ charged (declared arity) u → stopped (told r) (tables v rows seeds) ≡ predicate_call arity (tables s rows seeds)
+          module _ {u : Store} (p : going tt u ≡ billing (work 1) s) where
+            pub predicate_declare : (r : Refusal) {v : Store} → stopped (told r) v ≡ billing (declared arity) u → stopped (told r) (tables v rows seeds) ≡ predicate_call arity (tables s rows seeds)
             unfolding predicate_call
             predicate_declare r d =
                 rw (eq-eqb (length rows) size.predicate_cells n, eq-eqb (length seeds) size.argument_cells k, ← h, o, ← q, y)
-                (then_on _ _ _ (through_on _ _ _ _ (charged (work 1)) (tables s rows seeds) p) (then_stop _ _ _ (through_stop _ _ _ _ (charged (declared arity)) (tables u rows seeds) d)))
+                (then_on _ _ _ (through_on _ _ _ _ (billing (work 1)) (tables s rows seeds) p) (then_stop _ _ _ (through_stop _ _ _ _ (billing (declared arity)) (tables u rows seeds) d)))
 
-            pub predicate_id : {v w : Store} {rows₁ rows₂ seeds' : List ℕ} → going tt v ≡ charged (declared arity) u → w ≡ with_predicate arity v →
+            pub predicate_id : {v w : Store} {rows₁ rows₂ seeds' : List ℕ} → going tt v ≡ billing (declared arity) u → w ≡ with_predicate arity v →
                 rows₁ ≡ set rows (2 * s.counts.predicates) s.counts.positions → rows₂ ≡ set rows₁ (2 * s.counts.predicates + 1) arity →
                 seeds' ≡ bottoms seeds s.counts.positions arity → going s.counts.predicates (tables w rows₂ seeds') ≡ predicate_call arity (tables s rows seeds)
             unfolding predicate_call
             predicate_id {v} {w} {rows₁} {rows₂} {seeds'} d e r₁ r₂ g =
                 let c : v.counts ≡ s.counts = charged_counts (declared arity) u d ∙ charged_counts (work 1) s p in
                 rw (eq-eqb (length rows) size.predicate_cells n, eq-eqb (length seeds) size.argument_cells k, ← h, o, ← q, y)
-                (then_on _ _ _ (through_on _ _ _ _ (charged (work 1)) (tables s rows seeds) p) (then_on _ _ _ (through_on _ _ _ _ (charged (declared arity)) (tables u rows seeds) d) (rw (e, r₂, r₁, g, c, add-one (2 * s.counts.predicates)))))
+                (then_on _ _ _ (through_on _ _ _ _ (billing (work 1)) (tables s rows seeds) p) (then_on _ _ _ (through_on _ _ _ _ (billing (declared arity)) (tables u rows seeds) d) (rw (e, r₂, r₁, g, c, add-one (2 * s.counts.predicates)))))

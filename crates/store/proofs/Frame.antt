@@ -23,7 +23,7 @@ use Rattle.thresholds.proofs.Outcomes as outcomes
 use Rattle.thresholds.proofs.Sorted.{Ending}
 use Rattle.store.specs.declared.Store.{Store}
 use Rattle.store.specs.Store.{with_budget, with_thresholds}
-use Rattle.store.specs.Calls.{charged, Marks, marks, entering}
+use Rattle.store.specs.Calls.{billing, Marks, marks, entering}
 
 -- ---- budgets: the limits and all counts but work, links and bytes are shared
 
@@ -95,7 +95,7 @@ spends_metered {A} {m} h = record { at = λ b. go b (m (meter_of b)) (h.at b.sta
 
 -- ---- headers
 
--- s' is s with a budget that has charged
+-- s' is s with a budget that has billing
 pub record Charging (s s' : Store) : Type 0 where
   pub budget : Budget
   pub spent : Spent s.budget budget
@@ -111,7 +111,7 @@ charging_more {r} {s} {t} h k = record {
   is = k.is ∙ rw h.is;
 }
 
-pub charged_left : {A : Type 0} {m : Metered Stop Budget A} → Spends m → (s : Store) → Ends (λ _ t. Charging s t) (λ _ t. Charging s t) (charged m s)
+pub charged_left : {A : Type 0} {m : Metered Stop Budget A} → Spends m → (s : Store) → Ends (λ _ t. Charging s t) (λ _ t. Charging s t) (billing m s)
 charged_left {m} h s =
     ends_through (λ t. t) (λ _ t. t) (λ _ t. t) (λ e. told (Limit e)) _ s
     (ends_through (λ t. t.budget) (λ t b. with_budget b t) (λ t b. with_budget b t) (λ e. e) m s (h.at s.budget) (λ _ b p. record { budget = b; spent = p; is = refl }) (λ _ b p. record { budget = b; spent = p; is = refl }))
@@ -125,15 +125,15 @@ Limited e = 3 ≤ e.number
 pub limited : (s : Stop) → Limited (told (Limit s))
 limited s = late s.resource
 
-pub pays : {A : Type 0} {m : Metered Stop Budget A} → Spends m → (s : Store) → Ends (λ _ s'. Charging s s') (λ e s'. Limited e × Charging s s') (charged m s)
+pub pays : {A : Type 0} {m : Metered Stop Budget A} → Spends m → (s : Store) → Ends (λ _ s'. Charging s s') (λ e s'. Limited e × Charging s s') (billing m s)
 pays {A} {m} h s = ends_as (ends_both (charged_left h s) refusal) (λ _ s' p. p.0) (λ e s' p. (p.1, p.0))
   where
-    refusal : Ends (λ _ _. Unit {0}) (λ e _. Limited e) (charged m s)
+    refusal : Ends (λ _ _. Unit {0}) (λ e _. Limited e) (billing m s)
     refusal = ends_through (λ t. t) (λ _ t. t) (λ _ t. t) (λ e. told (Limit e)) _ s (in_some_way _) (λ _ _ _. tt) (λ e _ _. limited e)
 
 -- ---- thresholds
 
--- what entering numbers leaves: a budget that has charged, and another count of thresholds
+-- what entering numbers leaves: a budget that has billing, and another count of thresholds
 pub record Marking (t t' : Marks) : Type 0 where
   pub budget : Budget
   pub spent : Spent t.header.budget budget

@@ -24,8 +24,8 @@ abbrev pub open? : Store → Bool
 open? s = admits s.phase
 
 -- a charge in a call
-abbrev pub charged : {A : Type 0} → Metered Stop Budget A → Metered Told Store A
-charged m = stopping (λ e. told (Limit e)) (zoom (λ s. s.budget) with_budget m)
+abbrev pub billing : {A : Type 0} → Metered Stop Budget A → Metered Told Store A
+billing m = stopping (λ e. told (Limit e)) (zoom (λ s. s.budget) with_budget m)
 
 -- ---- thresholds, which several calls enter numbers into
 
@@ -47,11 +47,11 @@ unfoldable pub context_call : ℕ → Metered Told Store (Unit {0})
 context_call c = unless open? Closed (λ s. going tt (with_context (Some c) s))
 
 unfoldable pub work_call : ℕ → Metered Told Store (Unit {0})
-work_call n = unless open? Closed (charged (work n))
+work_call n = unless open? Closed (billing (work n))
 
 -- a row of the predicates' table: the first argument and the arity
-abbrev pub first_of : List ℕ → ℕ → ℕ
-first_of rows p = get_or rows (size.predicate_row * p) 0
+abbrev pub first_argument : List ℕ → ℕ → ℕ
+first_argument rows p = get_or rows (size.predicate_row * p) 0
 
 abbrev pub arity_of : List ℕ → ℕ → ℕ
 arity_of rows p = get_or rows (size.predicate_row * p + 1) 0
@@ -63,7 +63,7 @@ argument_call p i rows =
     (unless open? Closed
     (unless (λ s. ltb p size.predicates && ltb p s.counts.predicates) Missing
     (unless (λ s. ltb i (arity_of rows p)) Missing
-    (pure (first_of rows p + i)))))
+    (pure (first_argument rows p + i)))))
 
 -- ---- `Input::predicate`
 
@@ -105,4 +105,4 @@ predicate_call arity =
     unless (λ t. eqb (length t.rows) size.predicate_cells && eqb (length t.seeds) size.argument_cells) Shape
     (unless (λ t. open? t.header) Closed
     (unless (λ t. room_for t.header.counts.predicates t.header.counts.positions arity) Full
-    (in_header (charged (work 1)) >> in_header (charged (declared arity)) >> add_predicate arity)))
+    (in_header (billing (work 1)) >> in_header (billing (declared arity)) >> add_predicate arity)))

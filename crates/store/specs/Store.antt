@@ -5,16 +5,12 @@ use Rattle.limits.specs.declared.Limits.{Limits}
 use Rattle.limits.specs.declared.Budget.{Budget}
 use Rattle.limits.specs.declared.Refusal.TheVariants.{Shape}
 use Rattle.limits.specs.Refusal.{Told, told}
-use Rattle.limits.specs.Records.{fresh}
+use Rattle.limits.specs.Records.{fresh_budget}
 use Rattle.limits.specs.Metered.{Run, going, stopped}
 use Rattle.store.specs.declared.Phase.{Phase}
 use Rattle.store.specs.declared.Phase.TheVariants.{Absent, Open, Completed, Stopped}
 use Rattle.store.specs.declared.Counts.{Counts}
 use Rattle.store.specs.declared.Store.{Store}
-
--- the caller's context, if one is set
-abbrev pub Context : Type 0
-Context = Option ℕ
 
 -- 01, refusal 1: "A store call or run finds the store closed, or a reading finds it open". Store calls and the run want an open one.
 abbrev pub admits : Phase → Bool
@@ -69,7 +65,7 @@ abbrev pub nothing : Counts
 nothing = counts 0 0 0 0 0 0 0 0
 
 abbrev pub empty : Limits → Phase → Store
-empty l p = header (fresh l) nothing None p
+empty l p = header (fresh_budget l) nothing None p
 
 -- 01, refusal 1: "width over 16". There is then no store: a phase of its own.
 abbrev pub fresh_of : Limits → Run Told Store (Unit {0})

@@ -8,7 +8,7 @@ ghost use Rattle.limits.specs.Budget.{charge};
 ghost use Rattle.limits.specs.Metered.{answered};
 ghost use Rattle.limits.specs.Refusal.{replied};
 ghost use Rattle.store.specs.Store.{fresh_of, admits};
-ghost use Rattle.store.specs.Calls.{charged, marks, entering, context_call, work_call, declared, bottoms, room_for, tables, predicate_call, argument_call};
+ghost use Rattle.store.specs.Calls.{billing, marks, entering, context_call, work_call, declared, bottoms, room_for, tables, predicate_call, argument_call};
 ghost use Rattle.thresholds.specs.Thresholds.{around};
 
 use lattice::Abstract;
@@ -126,7 +126,7 @@ impl Store {
 
     // One charge of a call.
     pub fn pay(&mut self, resource: Resource, amount: u64) -> Result<(), Refusal>
-        ensures { replied result self.new ≡ charged (charge resource amount) self.old }
+        ensures { replied result self.new ≡ billing (charge resource amount) self.old }
     {
         self.budget.pay(resource, amount)?;
         Ok(())

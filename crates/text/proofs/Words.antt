@@ -15,7 +15,7 @@ use Rattle.integers.specs.Lists.{All}
 use Rattle.interval.specs.declared.Interval.{Interval}
 use Rattle.interval.specs.declared.Interval.TheVariants.{Bottom, Bounded, Unbounded}
 use Rattle.interval.specs.declared.Bound.{Bound}
-use Rattle.text.specs.Text.{decimal, integer, letter, ends, bound_words, others, bracketed, spaced, spaced_words, line}
+use Rattle.text.specs.Text.{decimal, integer, letter, end_words, bound_words, others, bracketed, spaced, spaced_words, line}
 use Rattle.text.specs.Answers.{Puts}
 use Rattle.text.proofs.Putting.{Leads, leads_whole, leads_more, leads_all, puts_then, puts_same}
 use Rattle.text.proofs.Decimals.{decimal_length_16}
@@ -55,26 +55,26 @@ puts_two {u} {v} p q r s = puts_then p (puts_then q (puts_then r (puts_same (sym
 
 -- ---- an interval and a bound
 
--- two ends, as locals of 32 bits have them
+-- two end_words, as locals of 32 bits have them
 pub puts_ends : (low high : ℤ) {a b c d e : ℕ} {l m n o p : List ℕ} → SFits w32 low → SFits w32 high →
     Puts (32 ∷ []) a l b m → Puts (integer (to_z w32 (of_z w32 low))) b m c n → Puts (32 ∷ []) c n d o → Puts (integer (to_z w32 (of_z w32 high))) d o e p →
     Puts (spaced_words (integer low ∷ integer high ∷ [])) a l e p
 puts_ends low high f g p q r s = puts_two p (rw (to_z-of_z f) at q) r (rw (to_z-of_z g) at s)
 
 module _ {i : Interval} {a b : ℕ} {l m : List ℕ} where
-  pub puts_empty : {c : ℕ} {n : List ℕ} → i ≡ Bottom → Puts (32 ∷ 101 ∷ []) a l b m → Puts (32 ∷ 101 ∷ []) b m c n → Puts (spaced_words (ends i)) a l c n
+  pub puts_empty : {c : ℕ} {n : List ℕ} → i ≡ Bottom → Puts (32 ∷ 101 ∷ []) a l b m → Puts (32 ∷ 101 ∷ []) b m c n → Puts (spaced_words (end_words i)) a l c n
   unfolding spaced_words
   puts_empty e p q = rw e (puts_then p q)
 
   pub puts_bounded : {low high : ℤ} → i ≡ Bounded low high → SFits w32 low → SFits w32 high →
-      Puts (spaced_words (integer (to_z w32 (of_z w32 low)) ∷ integer (to_z w32 (of_z w32 high)) ∷ [])) a l b m → Puts (spaced_words (ends i)) a l b m
+      Puts (spaced_words (integer (to_z w32 (of_z w32 low)) ∷ integer (to_z w32 (of_z w32 high)) ∷ [])) a l b m → Puts (spaced_words (end_words i)) a l b m
   puts_bounded e f g p = rw e (rw (to_z-of_z f, to_z-of_z g) at p)
 
-  pub puts_unbounded : i ≡ Unbounded → Puts (spaced_words (integer least32 ∷ integer greatest32 ∷ [])) a l b m → Puts (spaced_words (ends i)) a l b m
+  pub puts_unbounded : i ≡ Unbounded → Puts (spaced_words (integer least32 ∷ integer greatest32 ∷ [])) a l b m → Puts (spaced_words (end_words i)) a l b m
   puts_unbounded e p = rw e p
 
 pub puts_bound : (x : Bound) {k a b c : ℕ} {l m n : List ℕ} → k ∷ [] ≡ letter x.integrality →
-    Puts (32 ∷ k ∷ []) a l b m → Puts (spaced_words (ends x.interval)) b m c n → Puts (spaced_words (bound_words x)) a l c n
+    Puts (32 ∷ k ∷ []) a l b m → Puts (spaced_words (end_words x.interval)) b m c n → Puts (spaced_words (bound_words x)) a l c n
 unfolding spaced_words
 puts_bound x e p q = rw (← e) (puts_then p q)
 

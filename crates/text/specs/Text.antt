@@ -31,14 +31,14 @@ abbrev pub letter : Integrality → List ℕ
 letter Integer = 73 ∷ []
 letter Mixed = 77 ∷ []
 
--- "An empty interval prints `e e`; Unbounded prints its two ends."
-abbrev pub ends : Interval → List (List ℕ)
-ends Bottom = (101 ∷ []) ∷ (101 ∷ []) ∷ []
-ends (Bounded low high) = integer low ∷ integer high ∷ []
-ends Unbounded = integer least32 ∷ integer greatest32 ∷ []
+-- "An empty interval prints `e e`; Unbounded prints its two end_words."
+abbrev pub end_words : Interval → List (List ℕ)
+end_words Bottom = (101 ∷ []) ∷ (101 ∷ []) ∷ []
+end_words (Bounded low high) = integer low ∷ integer high ∷ []
+end_words Unbounded = integer least32 ∷ integer greatest32 ∷ []
 
 abbrev pub bound_words : Bound → List (List ℕ)
-bound_words b = letter b.integrality ∷ ends b.interval
+bound_words b = letter b.integrality ∷ end_words b.interval
 
 -- ---- a list: "`-` for none, else ids in brackets", parted by commas
 

@@ -5,7 +5,7 @@
 
 ghost use Rattle.std.specs.Prelude.{◌+◌, ◌*◌, ◌/◌, ◌%◌, ◌≤◌, ◌^◌, ◌≡◌, [], ◌∷◌, length};
 ghost use Rattle.lattice.specs.Value.{value_of};
-ghost use Rattle.text.specs.Text.{decimal, integer, letter, ends, bound_words, others, bracketed, list_word, spaced_words};
+ghost use Rattle.text.specs.Text.{decimal, integer, letter, end_words, bound_words, others, bracketed, list_word, spaced_words};
 ghost use Rattle.text.specs.Answers.{Puts};
 
 use interval::{Bound, Integrality, Interval};
@@ -99,7 +99,7 @@ fn put_letter(line: &mut [u8], at: usize, byte: u8) -> usize
 
 pub fn put_interval(line: &mut [u8], at: usize, interval: Interval) -> usize
     requires { at + 24 ≤ length line.old }
-    ensures puts { Puts (spaced_words (ends interval)) at line.old result line.new }
+    ensures puts { Puts (spaced_words (end_words interval)) at line.old result line.new }
     ensures within { result ≤ at + 24 }
 {
     match interval {

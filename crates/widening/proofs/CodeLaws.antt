@@ -19,7 +19,7 @@ use Rattle.limits.proofs.Onward.{Onward, onward_ends, onward_yes, onward_no, the
 use Rattle.interval.specs.declared.Interval.{Interval}
 use Rattle.interval.specs.Interval.{endpoints_of}
 use Rattle.widening.specs.declared.Growth.{Growth}
-use Rattle.widening.specs.Widening.{growth, Side, side, wide, nearest, grow, widen_low, widen_high, with_ends, widen, growth_at, put_growth, no_growth}
+use Rattle.widening.specs.Widening.{growth, Side, side, wide, nearest, grow_side, widen_low, widen_high, with_ends, widen, growth_at, put_growth, no_growth}
 
 -- ---- growth in its cells
 
@@ -78,18 +78,18 @@ all_seen (x ∷ l) e = absurd (omega arith)
 -- ---- a side, by what keeps it
 
 module _ (stays : Bool) (end : ℤ) (grown : ℕ) (search : Metered Stop Meter ℤ) (m : Meter) where
-  pub side_stays : stays ≡ true → going (side end grown) m ≡ grow stays end grown search m
+  pub side_stays : stays ≡ true → going (side end grown) m ≡ grow_side stays end grown search m
   side_stays b = rw b (pure_is _ _)
 
   module _ (b : stays ≡ false) where
-    pub side_counted : grown < 2 → going (side end (grown + 1)) m ≡ grow stays end grown search m
+    pub side_counted : grown < 2 → going (side end (grown + 1)) m ≡ grow_side stays end grown search m
     side_counted h = rw (b, lt-ltb grown 2 h) (pure_is _ _)
 
     module _ (h : 2 ≤ grown) where
-      pub side_stops : {stop : Stop} {t : Meter} → stopped stop t ≡ search m → stopped stop t ≡ grow stays end grown search m
+      pub side_stops : {stop : Stop} {t : Meter} → stopped stop t ≡ search m → stopped stop t ≡ grow_side stays end grown search m
       side_stops k = rw (b, le-ltb grown 2 h) (bind_stop search m _ k)
 
-      pub side_moves : {z : ℤ} {t : Meter} → going z t ≡ search m → going (side z grown) t ≡ grow stays end grown search m
+      pub side_moves : {z : ℤ} {t : Meter} → going z t ≡ search m → going (side z grown) t ≡ grow_side stays end grown search m
       side_moves k = rw (b, le-ltb grown 2 h) (bind_on search m _ k (pure_is _ _))
 
 -- ---- both sides

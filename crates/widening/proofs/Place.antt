@@ -10,6 +10,7 @@ use lib.Signed.{le_z}
 use lib.ListN.{length, get_or}
 use borrow.Author.Tests.{ltb-false}
 use lib.Dec.{ltb}
+use Rattle.widening.specs.Places.{first_place}
 use Rattle.std.specs.List.{position_or_len}
 use Rattle.std.specs.Prelude.{Option, Some, None, unwrap_or}
 use Rattle.limits.specs.declared.Stop.{Stop}
@@ -18,63 +19,63 @@ use Rattle.limits.specs.declared.Meter.{Meter}
 use Rattle.limits.specs.Meter.{work, units}
 use Rattle.limits.proofs.Monad.{then_on, then_stop, pure_is}
 use Rattle.limits.proofs.Units.{units_more, units_nothing}
-use Rattle.widening.specs.Widening.{nearest, first_of, above}
+use Rattle.widening.specs.Widening.{nearest, above}
 
-pub first_is : (test : ℤ → Bool) (l : List ℤ) → position_or_len test l ≡ first_of test l
-unfolding first_of
+pub first_is : (test : ℤ → Bool) (l : List ℤ) → position_or_len test l ≡ first_place test l
+unfolding first_place
 first_is test [] = refl
 first_is test (t ∷ l) = by_case (test t) (first_is test l)
   where
-    by_case : (b : Bool) → position_or_len test l ≡ first_of test l → cond (not b) (1 + position_or_len test l) 0 ≡ cond b 0 (suc (first_of test l))
+    by_case : (b : Bool) → position_or_len test l ≡ first_place test l → cond (not b) (1 + position_or_len test l) 0 ≡ cond b 0 (suc (first_place test l))
     by_case true e = refl
     by_case false e = omega (arith, e)
 
-first_within : (test : ℤ → Bool) (l : List ℤ) → first_of test l ≤ length l
-unfolding first_of
+first_within : (test : ℤ → Bool) (l : List ℤ) → first_place test l ≤ length l
+unfolding first_place
 first_within test [] = omega arith
 first_within test (t ∷ l) = by_case (test t) (first_within test l)
   where
-    by_case : (b : Bool) → first_of test l ≤ length l → cond b 0 (suc (first_of test l)) ≤ suc (length l)
+    by_case : (b : Bool) → first_place test l ≤ length l → cond b 0 (suc (first_place test l)) ≤ suc (length l)
     by_case true h = omega arith
     by_case false h = omega arith
 
 -- where the library's `position` ends, or the number of items
 pub position_is : (test : ℤ → Bool) (l : List ℤ) {r : Option ℕ} → r ≡ cond (ltb (position_or_len test l) (length l)) (Some (position_or_len test l)) None →
-    unwrap_or r (length l) ≡ first_of test l
-position_is test l e = rw (e, first_is test l) (by_case (ltb (first_of test l) (length l)) refl)
+    unwrap_or r (length l) ≡ first_place test l
+position_is test l e = rw (e, first_is test l) (by_case (ltb (first_place test l) (length l)) refl)
   where
-    by_case : (b : Bool) → ltb (first_of test l) (length l) ≡ b → unwrap_or (cond b (Some (first_of test l)) None) (length l) ≡ first_of test l
+    by_case : (b : Bool) → ltb (first_place test l) (length l) ≡ b → unwrap_or (cond b (Some (first_place test l)) None) (length l) ≡ first_place test l
     by_case true h = refl
-    by_case false h = omega (arith, ltb-false (first_of test l) (length l) h, first_within test l)
+    by_case false h = omega (arith, ltb-false (first_place test l) (length l) h, first_within test l)
 
 -- ---- what it pays
 
 module _ (beyond : ℤ → Bool) (end : ℤ) where
   found_at : (z t : ℤ) (l : List ℤ) (s : Meter) (b : Bool) →
-      ((m : Meter) → first_of beyond l < length l → (units (suc (first_of beyond l)) >> pure (get_or l (first_of beyond l) z)) m ≡ nearest beyond end l m) →
-      cond b 0 (suc (first_of beyond l)) < suc (length l) →
-      (units (suc (cond b 0 (suc (first_of beyond l)))) >> pure (get_or (t ∷ l) (cond b 0 (suc (first_of beyond l))) z)) s ≡ (work 1 >> cond b (pure t) (nearest beyond end l)) s
+      ((m : Meter) → first_place beyond l < length l → (units (suc (first_place beyond l)) >> pure (get_or l (first_place beyond l) z)) m ≡ nearest beyond end l m) →
+      cond b 0 (suc (first_place beyond l)) < suc (length l) →
+      (units (suc (cond b 0 (suc (first_place beyond l)))) >> pure (get_or (t ∷ l) (cond b 0 (suc (first_place beyond l))) z)) s ≡ (work 1 >> cond b (pure t) (nearest beyond end l)) s
   found_at z t l s true h k = units_more 0 _ _ s (units_nothing _)
   found_at z t l s false h k = units_more _ _ _ s (λ m. h m (omega arith))
 
-  nearest_found : (z : ℤ) (l : List ℤ) (s : Meter) → first_of beyond l < length l → (units (suc (first_of beyond l)) >> pure (get_or l (first_of beyond l) z)) s ≡ nearest beyond end l s
-  unfolding first_of nearest
+  nearest_found : (z : ℤ) (l : List ℤ) (s : Meter) → first_place beyond l < length l → (units (suc (first_place beyond l)) >> pure (get_or l (first_place beyond l) z)) s ≡ nearest beyond end l s
+  unfolding first_place nearest
   nearest_found z [] s h = absurd (omega arith)
   nearest_found z (t ∷ l) s h = found_at z t l s (beyond t) (nearest_found z l) h
 
-  none_at : (t : ℤ) (l : List ℤ) (s : Meter) (b : Bool) → ((m : Meter) → length l ≤ first_of beyond l → (units (first_of beyond l) >> pure end) m ≡ nearest beyond end l m) →
-      suc (length l) ≤ cond b 0 (suc (first_of beyond l)) → (units (cond b 0 (suc (first_of beyond l))) >> pure end) s ≡ (work 1 >> cond b (pure t) (nearest beyond end l)) s
+  none_at : (t : ℤ) (l : List ℤ) (s : Meter) (b : Bool) → ((m : Meter) → length l ≤ first_place beyond l → (units (first_place beyond l) >> pure end) m ≡ nearest beyond end l m) →
+      suc (length l) ≤ cond b 0 (suc (first_place beyond l)) → (units (cond b 0 (suc (first_place beyond l))) >> pure end) s ≡ (work 1 >> cond b (pure t) (nearest beyond end l)) s
   none_at t l s true h k = absurd (omega arith)
   none_at t l s false h k = units_more _ _ _ s (λ m. h m (omega arith))
 
-  nearest_none : (l : List ℤ) (s : Meter) → length l ≤ first_of beyond l → (units (first_of beyond l) >> pure end) s ≡ nearest beyond end l s
-  unfolding first_of nearest
+  nearest_none : (l : List ℤ) (s : Meter) → length l ≤ first_place beyond l → (units (first_place beyond l) >> pure end) s ≡ nearest beyond end l s
+  unfolding first_place nearest
   nearest_none [] s h = units_nothing _ s
   nearest_none (t ∷ l) s h = none_at t l s (beyond t) (nearest_none l) h
 
 -- ---- the code's answers
 
-module _ (high : ℤ) (l : List ℤ) {n : ℕ} (p : n ≡ first_of (le_z high) l) (m : Meter) where
+module _ (high : ℤ) (l : List ℤ) {n : ℕ} (p : n ≡ first_place (le_z high) l) (m : Meter) where
   module _ (z : ℤ) (k : n < length l) where
     found : (units (n + 1) >> pure (get_or l n z)) m ≡ above l high m
     unfolding above

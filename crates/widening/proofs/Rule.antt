@@ -29,7 +29,7 @@ use Rattle.interval.specs.Interval.{cousot, endpoints_of}
 use Rattle.interval.specs.Proper.{Proper}
 use Rattle.interval.specs.Cousot.{◌∋◌}
 use Rattle.widening.specs.declared.Growth.{Growth}
-use Rattle.widening.specs.Widening.{growth, Side, side, nearest, below, above, grow, widen_low, widen_high, Wide, wide, with_ends, widen_ends, widen}
+use Rattle.widening.specs.Widening.{growth, Side, side, nearest, below, above, grow_side, widen_low, widen_high, Wide, wide, with_ends, widen_ends, widen}
 use Rattle.widening.specs.Rule.{Rising, Which, lower, upper, AtOrBeyond, Grows, Stays, Nearest, MovesTo, Counted, Placed, ByRule}
 use Rattle.widening.specs.Rule as rule
 
@@ -187,7 +187,7 @@ data Becomes (s : Which) (thresholds : List ℤ) (old new : ℤ) (n : ℕ) : Sid
   moved : {z : ℤ} → Grows s old new → 2 ≤ n → Reaches s thresholds new z → Becomes s thresholds old new n (side z n)
 
 sided : (s : Which) (thresholds : List ℤ) (old new : ℤ) (n : ℕ) (stays : Bool) {search : Metered Stop Meter ℤ} → (stays ≡ true → Stays s old new) → (stays ≡ false → Grows s old new) →
-    Ensures (Reaches s thresholds new) search → Ensures (Becomes s thresholds old new n) (grow stays new n search)
+    Ensures (Reaches s thresholds new) search → Ensures (Becomes s thresholds old new n) (grow_side stays new n search)
 sided s thresholds old new n stays in_it out_of_it h =
     by_test stays (λ e. by_pure _ (stayed (in_it e)))
     (λ e.
@@ -202,7 +202,7 @@ high_becomes : (thresholds : List ℤ) (old high : ℤ) (n : ℕ) → Ensures (B
 unfolding widen_high
 high_becomes thresholds old high n = sided upper thresholds old high n (le_z high old) (λ e. le_yes high old e) (λ e. le_no high old e) (above_reaches thresholds high)
 
--- a side does not both grow and stay
+-- a side does not both grow_side and stay
 not_both : {P : Type 0} (s : Which) (old new : ℤ) → Grows s old new → Stays s old new → P
 not_both lower old new g h = absurd (omega arith)
 not_both upper old new g h = absurd (omega arith)
@@ -354,10 +354,10 @@ nearest_lives beyond end [] = live_pure 0 end refl
 nearest_lives beyond end (t ∷ l) = live_then (live_work 1) (live_test (beyond t) (λ _. live_pure 0 t refl) (λ _. nearest_lives beyond end l))
 
 module _ (stays : Bool) (end : ℤ) (grown : ℕ) {search : Metered Stop Meter ℤ} where
-  grow_steady : Steady search → Steady (grow stays end grown search)
+  grow_steady : Steady search → Steady (grow_side stays end grown search)
   grow_steady h = steady_test stays (λ _. steady_pure _) (λ _. steady_test (ltb grown 2) (λ _. steady_pure _) (λ _. steady_bind h (λ z. steady_pure _)))
 
-  grow_lives : Lives 0 (λ _. 0) search → Lives 0 (λ _. 0) (grow stays end grown search)
+  grow_lives : Lives 0 (λ _. 0) search → Lives 0 (λ _. 0) (grow_side stays end grown search)
   grow_lives h = live_test stays (λ _. live_pure 0 _ refl) (λ _. live_test (ltb grown 2) (λ _. live_pure 0 _ refl) (λ _. live_bind h (λ z. live_pure 0 _ refl)))
 
 module _ (thresholds : List ℤ) (previous next : Interval) (g : Growth) where

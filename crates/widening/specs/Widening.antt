@@ -28,11 +28,6 @@ unfoldable pub nearest : (ℤ → Bool) → ℤ → List ℤ → Metered Stop Me
 nearest beyond end [] = pure end
 nearest beyond end (t ∷ l) = work 1 >> cond (beyond t) (pure t) (nearest beyond end l)
 
--- the place of the first item that the test holds of, or the number of items
-unfoldable pub first_of : (ℤ → Bool) → List ℤ → ℕ
-first_of test [] = 0
-first_of test (t ∷ l) = cond (test t) 0 (suc (first_of test l))
-
 -- sought from the top
 unfoldable pub below : List ℤ → ℤ → Metered Stop Meter ℤ
 below thresholds low = nearest (λ t. le_z t low) low (reverse thresholds)
@@ -41,15 +36,15 @@ below thresholds low = nearest (λ t. le_z t low) low (reverse thresholds)
 unfoldable pub above : List ℤ → ℤ → Metered Stop Meter ℤ
 above thresholds high = nearest (λ t. le_z high t) high thresholds
 
--- 01: "A side that grows is counted the first two times; later it moves to the nearest threshold at or beyond it." `stays` where it does not grow
-abbrev pub grow : Bool → ℤ → ℕ → Metered Stop Meter ℤ → Metered Stop Meter Side
-grow stays end grown search = cond stays (pure (side end grown)) (cond (ltb grown 2) (pure (side end (grown + 1))) (search >>= (λ z. pure (side z grown))))
+-- 01: "A side that grows is counted the first two times; later it moves to the nearest threshold at or beyond it." `stays` where it does not grow_side
+abbrev pub grow_side : Bool → ℤ → ℕ → Metered Stop Meter ℤ → Metered Stop Meter Side
+grow_side stays end grown search = cond stays (pure (side end grown)) (cond (ltb grown 2) (pure (side end (grown + 1))) (search >>= (λ z. pure (side z grown))))
 
 unfoldable pub widen_low : List ℤ → ℤ → ℤ → ℕ → Metered Stop Meter Side
-widen_low thresholds old low grown = grow (le_z old low) low grown (below thresholds low)
+widen_low thresholds old low grown = grow_side (le_z old low) low grown (below thresholds low)
 
 unfoldable pub widen_high : List ℤ → ℤ → ℤ → ℕ → Metered Stop Meter Side
-widen_high thresholds old high grown = grow (le_z high old) high grown (above thresholds high)
+widen_high thresholds old high grown = grow_side (le_z high old) high grown (above thresholds high)
 
 -- ---- both sides
 

@@ -1,10 +1,11 @@
 //! Widening (`widen` of engine.rs): an interval that grows is moved outward to thresholds, each side by its own count.
 #![tactic(auto)]
 
+ghost use Rattle.widening.specs.Places.{first_place};
 ghost use Rattle.std.specs.Prelude.{◌≡◌};
 ghost use Rattle.std.specs.Int.Signed.{le_z};
 ghost use Rattle.limits.specs.Metered.{answered};
-ghost use Rattle.widening.specs.Widening.{first_of, below, above, widen_low, widen_high, with_ends, widen, growth_at, put_growth, no_growth};
+ghost use Rattle.widening.specs.Widening.{below, above, widen_low, widen_high, with_ends, widen, growth_at, put_growth, no_growth};
 
 use interval::Interval;
 use limits::{Meter, Stop};
@@ -81,7 +82,7 @@ fn threshold_below(thresholds: &[i32], low: i32, meter: &mut Meter) -> Result<i3
 
 // The place of the first threshold that is not below `high`, or their number.
 fn first_above(thresholds: &[i32], high: i32) -> usize
-    ensures { result ≡ first_of (le_z high) thresholds.now }
+    ensures { result ≡ first_place (le_z high) thresholds.now }
 {
     thresholds
         .iter()

@@ -3,7 +3,7 @@ use mathlib.Core.Path.{ap, ◌∙◌}
 use Rattle.std.proofs.Common.{Ok, Some}
 use Rattle.lattice.specs.declared.Widening.TheVariants.{ValueWidth}
 use Rattle.lists.specs.Ids.{merged}
-use Rattle.lists.proofs.Seen.{seen_went, seen_broke, seen_exits}
+use Rattle.limits.proofs.Seen.{seen_went, seen_broke, seen_exits}
 use Rattle.lattice.specs.Value.{value_of}
 use Rattle.lattice.proofs.CodeLaws.{first_is, lists_stopped, lists_lost, lists_kept}
 use Rattle.lattice.proofs.join_lists.Goals as goal

@@ -1,7 +1,7 @@
 -- `lattice::retained` meets its contract.
 use mathlib.Core.Path.{ap, ◌∙◌}
 use mathlib.Core.List.{[], ◌∷◌, ◌++◌}
-use Rattle.lists.proofs.Seen.{seen_exits}
+use Rattle.limits.proofs.Seen.{seen_exits}
 use Rattle.limits.proofs.Answering.{went, broke}
 use Rattle.lattice.specs.Value.{value_of}
 use Rattle.lattice.proofs.CodeLaws.{retained_none, retained_stopped, retained_one}

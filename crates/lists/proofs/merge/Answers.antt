@@ -4,7 +4,7 @@ use mathlib.Core.Path.{ap, ◌∙◌}
 use Rattle.std.proofs.Common.{Ok}
 use Rattle.limits.proofs.Answering.{went, broke}
 use Rattle.lists.specs.Ids.{merged}
-use Rattle.lists.proofs.Seen.{seen_exits}
+use Rattle.limits.proofs.Seen.{seen_exits}
 use Rattle.lists.proofs.Merging.{merging, taken_fits, merge_all, merge_stopped, merge_none, merge_more, merge_falls}
 use Rattle.lists.proofs.merge.Goals as goal
 

@@ -1,6 +1,6 @@
 -- `passes::grow` meets its contract.
 use Rattle.limits.proofs.Monad.{bind_stop, bind_on, then_stop, then_on}
-use Rattle.lists.proofs.Seen.{seen_exits}
+use Rattle.limits.proofs.Seen.{seen_exits}
 use Rattle.passes.specs.Step.{grow}
 use Rattle.passes.specs.Lent.{grown_in}
 use Rattle.passes.proofs.grow.Goals as goal

@@ -1,7 +1,7 @@
 -- `passes::widen_value` meets its contract.
 use Rattle.limits.proofs.Answering.{went, broke}
 use Rattle.limits.proofs.Monad.{bind_stop, bind_on}
-use Rattle.lists.proofs.Seen.{seen_exits}
+use Rattle.limits.proofs.Seen.{seen_exits}
 use Rattle.lattice.specs.Value.{value_of}
 use Rattle.widening.specs.Widening.{widen}
 use Rattle.passes.specs.Step.{widen_value}

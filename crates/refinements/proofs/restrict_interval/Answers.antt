@@ -1,5 +1,5 @@
 -- `refinements::restrict_interval` meets its contract.
-use Rattle.lists.proofs.Seen.{seen_exits}
+use Rattle.limits.proofs.Seen.{seen_exits}
 use Rattle.lattice.specs.Lattice.{numeric}
 use Rattle.refinements.specs.Refinement.{refinement_at}
 use Rattle.refinements.proofs.CodeLaws.{interval_stopped, interval_free, interval_refused, interval_met}

@@ -1,5 +1,5 @@
 -- `rows::copied_at` meets its contract.
-use Rattle.lists.proofs.Seen.{seen_exits}
+use Rattle.limits.proofs.Seen.{seen_exits}
 use Rattle.lattice.proofs.CodeLaws.{copied_stopped, copied_none, list_stopped}
 use Rattle.rows.specs.Row.{value_at}
 use Rattle.rows.proofs.CodeLaws.{kept_listed, none_listed, copied_entries}

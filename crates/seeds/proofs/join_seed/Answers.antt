@@ -1,5 +1,5 @@
 -- `seeds::join_seed` meets its contract.
-use Rattle.lists.proofs.Seen.{seen_went, seen_broke, seen_exits}
+use Rattle.limits.proofs.Seen.{seen_went, seen_broke, seen_exits}
 use Rattle.lattice.specs.Value.{value_of}
 use Rattle.lattice.specs.Lattice.{join}
 use Rattle.rows.specs.Row.{entries_of}

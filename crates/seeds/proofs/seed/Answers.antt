@@ -1,6 +1,6 @@
 -- `seeds::seed` meets its contract.
 use Rattle.limits.proofs.Answering.{limits}
-use Rattle.lists.proofs.Seen.{seen_went, seen_broke}
+use Rattle.limits.proofs.Seen.{seen_went, seen_broke}
 use Rattle.lattice.specs.Value.{value_of}
 use Rattle.seeds.proofs.CodeLaws.{seed_stopped, seed_done}
 use Rattle.seeds.proofs.seed.Goals as goal

@@ -1,7 +1,7 @@
 -- `seeds::seed_constant` meets its contract.
 use Rattle.limits.proofs.Answering.{limits}
 use Rattle.lattice.specs.Value.{value_of}
-use Rattle.lists.proofs.Seen.{seen_went, seen_broke}
+use Rattle.limits.proofs.Seen.{seen_went, seen_broke}
 use Rattle.seeds.proofs.CodeLaws.{seed_constant_stopped, seed_constant_done}
 use Rattle.seeds.proofs.seed_constant.Goals as goal
 

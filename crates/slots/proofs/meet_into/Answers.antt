@@ -1,6 +1,6 @@
 -- `slots::meet_into` meets its contract.
 use Rattle.limits.proofs.Answering.{exits}
-use Rattle.lists.proofs.Seen.{seen_broke, seen_went}
+use Rattle.limits.proofs.Seen.{seen_broke, seen_went}
 use Rattle.lattice.specs.Value.{value_of}
 use Rattle.lattice.specs.Lattice.{meet}
 use Rattle.slots.proofs.CodeLaws.{replaced_stop, replaced_on}

@@ -3,7 +3,7 @@ use native.Mathlib.Omega.{arith}
 use mathlib.Core.Path.{ap, ◌∙◌}
 use Rattle.limits.proofs.Answering.{went, broke, exits}
 use Rattle.lattice.specs.Value.{value_of}
-use Rattle.lists.proofs.Seen.{seen_went, seen_broke}
+use Rattle.limits.proofs.Seen.{seen_went, seen_broke}
 use Rattle.nodes.proofs.Descent.{unary_smaller, absolute_smaller, binary_smaller}
 use Rattle.operators.specs.Arithmetic.{unary_of, absolute_of}
 use Rattle.evaluation.specs.Operands.{sees}

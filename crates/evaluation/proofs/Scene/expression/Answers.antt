@@ -1,7 +1,7 @@
 -- `evaluation::Scene::expression` meets its contract.
 use mathlib.Core.Path.{◌∙◌}
 use Rattle.limits.proofs.Answering.{went, broke}
-use Rattle.lists.proofs.Seen.{seen_went, seen_broke, seen_exits}
+use Rattle.limits.proofs.Seen.{seen_went, seen_broke, seen_exits}
 use Rattle.lattice.specs.Value.{value_of}
 use Rattle.evaluation.proofs.Operands.{after_stop, after_on, after_pure}
 use Rattle.evaluation.proofs.CodeLaws.{unpaid, at_node, parent_seen}

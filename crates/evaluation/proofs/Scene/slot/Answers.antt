@@ -1,6 +1,6 @@
 -- `evaluation::Scene::slot` meets its contract.
 use Rattle.limits.proofs.Answering.{exits}
-use Rattle.lists.proofs.Seen.{seen_went, seen_broke}
+use Rattle.limits.proofs.Seen.{seen_went, seen_broke}
 use Rattle.evaluation.proofs.Operands.{copy_stopped, slot_narrowed, slot_seen, slot_stopped}
 use Rattle.evaluation.proofs.Scene.slot.Goals as goal
 

@@ -1,5 +1,5 @@
 -- `lattice::Abstract::copied` meets its contract.
-use Rattle.lists.proofs.Seen.{seen_exits}
+use Rattle.limits.proofs.Seen.{seen_exits}
 use Rattle.limits.proofs.Answering.{went, broke}
 use Rattle.lattice.specs.Value.{value_of}
 use Rattle.lattice.proofs.CodeLaws.{copied_stopped, copied_none, list_stopped, entries_stopped, list_copied}

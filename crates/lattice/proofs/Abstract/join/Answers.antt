@@ -1,5 +1,5 @@
 -- `lattice::Abstract::join` meets its contract.
-use Rattle.lists.proofs.Seen.{seen_exits}
+use Rattle.limits.proofs.Seen.{seen_exits}
 use Rattle.limits.proofs.Answering.{went, broke}
 use Rattle.lattice.specs.Value.{value_of}
 use Rattle.lattice.proofs.CodeLaws.{first_is, join_stopped, join_on, join_left, join_right}

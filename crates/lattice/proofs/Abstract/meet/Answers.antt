@@ -1,6 +1,6 @@
 -- `lattice::Abstract::meet` meets its contract.
 use Rattle.limits.proofs.Answering.{went, broke}
-use Rattle.lists.proofs.Seen.{seen_exits}
+use Rattle.limits.proofs.Seen.{seen_exits}
 use Rattle.lattice.specs.Value.{value_of}
 use Rattle.lattice.proofs.CodeLaws.{meet_stopped, meet_through, meet_without}
 use Rattle.lattice.proofs.Abstract.meet.Goals as goal

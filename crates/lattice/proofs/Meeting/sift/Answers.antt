@@ -4,7 +4,7 @@ use native.Mathlib.Omega.{arith}
 use Rattle.std.proofs.Common.{Ok}
 use Rattle.limits.proofs.Answering.{went, broke}
 use Rattle.lists.specs.Ids.{ids_of}
-use Rattle.lists.proofs.Seen.{seen_exits}
+use Rattle.limits.proofs.Seen.{seen_exits}
 use Rattle.lattice.proofs.Sifting.{sifting, sift_done, sift_stopped, sift_left, sift_taken}
 use Rattle.lattice.proofs.Meeting.sift.Goals as goal
 use Rattle.lattice.proofs.Meeting.sift.Goals.{then-branch, else-branch}

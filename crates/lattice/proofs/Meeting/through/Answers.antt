@@ -1,7 +1,7 @@
 -- `lattice::Meeting::through` meets its contract.
 use Rattle.limits.proofs.Answering.{went, broke}
 use Rattle.lists.specs.Ids.{ids_of}
-use Rattle.lists.proofs.Seen.{seen_went, seen_broke, seen_exits}
+use Rattle.limits.proofs.Seen.{seen_went, seen_broke, seen_exits}
 use Rattle.lattice.specs.Value.{value_of}
 use Rattle.lattice.proofs.CodeLaws.{sift_stopped, reduce_stopped, list_met}
 use Rattle.lattice.proofs.Meeting.through.Goals as goal

@@ -3,8 +3,7 @@ use mathlib.Core.Path.{◌≡◌, sym, ap, ◌∙◌}
 use Rattle.std.proofs.Common.{Result, Ok, Err}
 use Rattle.std.specs.Prelude.{IsErrAnd}
 use Rattle.std.proofs.lemmas.Result.{err_from_is_err_and}
-use Rattle.limits.specs.Metered.{Run, going, stopped}
-use Rattle.lists.specs.Ids.{seen}
+use Rattle.limits.specs.Metered.{Run, going, stopped, seen}
 
 module _ {E S A B : Type 0} (of : A → B) {s : S} {y : Run E S B} where
   pub seen_went : {r : Result A E} {a : A} → seen of r s ≡ y → r ≡ Ok a → going (of a) s ≡ y

@@ -1,8 +1,8 @@
 -- `rounds::move_rows` meets its contract.
 use native.Mathlib.Numerals.{add-one}
 use mathlib.Core.Path.{refl}
-use Rattle.rounds.specs.Round.{moved}
-use Rattle.rounds.proofs.move_rows.Goals as goal
+use Rattle.rows.specs.Row.{moved}
+use Rattle.rows.proofs.move_rows.Goals as goal
 
 pub loop-i-init : goal.loop-i-init
 unfolding moved

@@ -6,11 +6,10 @@ use mathlib.Core.Path.{◌≡◌, refl, ◌∙◌}
 use mathlib.Core.List.{List}
 use lib.ListN.{length}
 use Rattle.sizes.specs.Sizes.{value_row}
-use Rattle.rows.specs.Row.{value_at}
+use Rattle.rows.specs.Row.{value_at, moved}
 use Rattle.rows.proofs.RowLaws.{length_put, put_back, put_other}
 use Rattle.slots.specs.Slots.{total}
 use Rattle.slots.proofs.Live.{Formed, formed_put, total_same}
-use Rattle.rounds.specs.Round.{moved}
 
 pub length_moved : (from to : List ℕ) (n : ℕ) → length (moved from n to) ≡ length to
 unfolding moved

@@ -1,8 +1,8 @@
--- `constants::keep` meets its contract.
+-- `constants::keep_key` meets its contract.
 use Rattle.keys.specs.Key.{key_of}
 use Rattle.limits.proofs.Answering.{limits}
 use Rattle.constants.proofs.CodeLaws.{keep_halted, keep_found, place_within, keep_new}
-use Rattle.constants.proofs.keep.Goals as goal
+use Rattle.constants.proofs.keep_key.Goals as goal
 
 pub returns-in_err-place : goal.returns-in_err-place
 returns-in_err-place c =

@@ -1,7 +1,7 @@
--- `passes::step` meets its contract.
+-- `passes::advance_one` meets its contract.
 use Rattle.limits.proofs.Answering.{exits}
 use Rattle.passes.proofs.StepLaws.{lost_counted, kept_counted, step_stopped, step_done}
-use Rattle.passes.proofs.step.Goals as goal
+use Rattle.passes.proofs.advance_one.Goals as goal
 
 pub returns-in_err-grown : goal.returns-in_err-grown
 returns-in_err-grown c =

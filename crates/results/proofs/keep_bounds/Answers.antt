@@ -1,8 +1,8 @@
--- `results::keep` meets its contract.
+-- `results::keep_bounds` meets its contract.
 use native.Mathlib.Omega.{arith}
 use Rattle.limits.proofs.Answering.{exits}
 use Rattle.results.proofs.CodeLaws.{keep_begun, kept, keep_stopped, keep_more}
-use Rattle.results.proofs.keep.Goals as goal
+use Rattle.results.proofs.keep_bounds.Goals as goal
 
 pub loop-slot-init : goal.loop-slot-init
 loop-slot-init c = keep_begun _ _ _ _ _
