@@ -1,7 +1,7 @@
 pub mod Charge
 pub mod Records
 pub mod Refusal
-pub mod Meter
-pub mod Contexted
+pub mod Metered
 pub mod Budget
 pub mod Meter
+pub mod Context

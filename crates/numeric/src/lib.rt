@@ -12,6 +12,7 @@ ghost use Rattle.numeric.specs.Answers.{readable, reads, kind, status};
 use interval::{Bound, Constant};
 use lattice::Abstract;
 use limits::{Refusal, Stop};
+use sizes::{BOUND_ROW, BOUNDS_ROW, RECORD_ROW, SLOT_ROW};
 use store::{Phase, Store};
 
 // How the run ended: stopped, with its Stop and the context in force there.
@@ -52,7 +53,7 @@ fn is_of(records: &[u32], place: usize, argument: u64) -> bool
     requires { place < size.records }
     ensures { result ≡ eqb (get_or records.now (size.record_row * place) 0) argument }
 {
-    cells::cell_at(records, sizes::RECORD_ROW * place) as u64 == argument
+    cells::cell_at(records, RECORD_ROW * place) as u64 == argument
 }
 
 // How many of the first `count` records are of an argument. The count stands in the header, and the table has one size.
@@ -78,7 +79,7 @@ fn find_context(records: &[u32], count: usize, argument: u64, k: u64) -> Result<
     for i in 0..count {
         if is_of(records, i, argument) {
             if found == k {
-                return Ok(cells::cell_at(records, sizes::RECORD_ROW * i + 1) as u64);
+                return Ok(cells::cell_at(records, RECORD_ROW * i + 1) as u64);
             }
             found += 1;
         }
@@ -139,8 +140,8 @@ fn bound_place(rule: usize, slot: usize, after: bool) -> usize
     requires { (rule < size.rules) × (slot < size.slots) }
     ensures { result ≡ bound_place rule slot after }
 {
-    let at = sizes::BOUNDS_ROW * rule + sizes::SLOT_ROW * slot;
-    if after { at + sizes::BOUND_ROW } else { at }
+    let at = BOUNDS_ROW * rule + SLOT_ROW * slot;
+    if after { at + BOUND_ROW } else { at }
 }
 
 fn is_slots_sized(rules: usize, slots: usize) -> bool

@@ -37,7 +37,12 @@ fn within(interval: Interval, value: Abstract) -> Abstract
 }
 
 // A new value compared with the old one, and dropped where this is stopped.
-fn with_change(old: Abstract, value: Abstract, growth: Growth, meter: &mut Meter) -> Result<Grown, Stop>
+fn with_change(
+    old: Abstract,
+    value: Abstract,
+    growth: Growth,
+    meter: &mut Meter,
+) -> Result<Grown, Stop>
     ensures { seen grown_in result meter.new ≡ with_change (value_of old) (value_of value) growth meter.old }
 {
     let same = old.same(value, meter);

@@ -13,6 +13,7 @@ ghost use Rattle.results.specs.Result.{put_bound, keep_bounds, keep_both, close,
 use interval::Bound;
 use limits::{Meter, Resource, Stop};
 use rounds::{Course, Given, Locals, Task};
+use sizes::{BOUND_ROW, BOUNDS_ROW, SLOT_ROW};
 
 // A bound of a rule's slot, before guards or after them.
 fn put_bound(cells: &mut [u32], id: usize, slot: usize, after: bool, bound: Bound)
@@ -21,9 +22,7 @@ fn put_bound(cells: &mut [u32], id: usize, slot: usize, after: bool, bound: Boun
     if sizes::RULES <= id || sizes::SLOTS <= slot {
         return;
     }
-    let at = sizes::BOUNDS_ROW * id
-        + sizes::SLOT_ROW * slot
-        + if after { sizes::BOUND_ROW } else { 0 };
+    let at = BOUNDS_ROW * id + SLOT_ROW * slot + if after { BOUND_ROW } else { 0 };
     cells::put_cell(cells, at, rows::integrality_cell(bound.integrality));
     cells::put_cell(cells, at + 1, rows::case_cell(bound.interval));
     cells::put_cell(cells, at + 2, rows::low_cell(bound.interval));

@@ -15,12 +15,15 @@ use cells::{cell_at, of_cell, put_cell, to_cell};
 use interval::{Bound, Integrality, Interval};
 use lattice::{Abstract, Widening};
 use limits::{Meter, Stop};
+use sizes::{
+    VALUE_CASE, VALUE_HIGH, VALUE_IDS, VALUE_KEPT, VALUE_LENGTH, VALUE_LOW, VALUE_REASON, VALUE_ROW,
+};
 
 // Where a row begins. All rows beyond the table begin at its end.
 fn start(len: usize, number: usize) -> usize
     ensures { result ≡ min (size.value_row * number) len }
 {
-    sizes::VALUE_ROW.saturating_mul(number).min(len)
+    VALUE_ROW.saturating_mul(number).min(len)
 }
 
 pub fn integrality_of(cell: u32) -> Integrality
@@ -63,7 +66,7 @@ fn ids_at(cells: &[u32], at: usize) -> [u16; sizes::WIDTH]
 {
     let mut ids = [0; sizes::WIDTH];
     for j in 0..sizes::WIDTH {
-        ids[j] = (cell_at(cells, at + sizes::VALUE_IDS + j) % 65536) as u16;
+        ids[j] = (cell_at(cells, at + VALUE_IDS + j) % 65536) as u16;
     }
     ids
 }
@@ -76,9 +79,9 @@ fn read_bound(cells: &[u32], at: usize) -> Bound
     Bound {
         integrality: integrality_of(cell_at(cells, at)),
         interval: interval_of(
-            cell_at(cells, at + sizes::VALUE_CASE),
-            cell_at(cells, at + sizes::VALUE_LOW),
-            cell_at(cells, at + sizes::VALUE_HIGH),
+            cell_at(cells, at + VALUE_CASE),
+            cell_at(cells, at + VALUE_LOW),
+            cell_at(cells, at + VALUE_HIGH),
         ),
     }
 }
@@ -88,9 +91,9 @@ pub fn abstract_at(cells: &[u32], row: usize) -> Abstract
 {
     let at = start(cells.len(), row);
     let bound = read_bound(cells, at);
-    let kept = cell_at(cells, at + sizes::VALUE_KEPT) != 0;
-    let len = cell_at(cells, at + sizes::VALUE_LENGTH) as usize;
-    let reason = reason_of(cell_at(cells, at + sizes::VALUE_REASON));
+    let kept = cell_at(cells, at + VALUE_KEPT) != 0;
+    let len = cell_at(cells, at + VALUE_LENGTH) as usize;
+    let reason = reason_of(cell_at(cells, at + VALUE_REASON));
     // Without a list there are no ids to read.
     if !kept {
         return Abstract {
@@ -154,9 +157,9 @@ fn put_bound(cells: &mut [u32], at: usize, bound: Bound)
     ensures { cells.new ≡ sets cells.old at (bound_cells bound) }
 {
     put_cell(cells, at, integrality_cell(bound.integrality));
-    put_cell(cells, at + sizes::VALUE_CASE, case_cell(bound.interval));
-    put_cell(cells, at + sizes::VALUE_LOW, low_cell(bound.interval));
-    put_cell(cells, at + sizes::VALUE_HIGH, high_cell(bound.interval));
+    put_cell(cells, at + VALUE_CASE, case_cell(bound.interval));
+    put_cell(cells, at + VALUE_LOW, low_cell(bound.interval));
+    put_cell(cells, at + VALUE_HIGH, high_cell(bound.interval));
 }
 
 // The ids of the list, if there is one.
@@ -182,10 +185,10 @@ pub fn entries_at(cells: &[u32], row: usize) -> u64
     ensures { result ≡ entries_of (value_at cells.now row) }
 {
     let at = start(cells.len(), row);
-    if cell_at(cells, at + sizes::VALUE_KEPT) == 0 {
+    if cell_at(cells, at + VALUE_KEPT) == 0 {
         return 0;
     }
-    u64::from(cell_at(cells, at + sizes::VALUE_LENGTH).min(sizes::WIDTH as u32))
+    u64::from(cell_at(cells, at + VALUE_LENGTH).min(sizes::WIDTH as u32))
 }
 
 // The bound of the value in a row.
@@ -200,7 +203,7 @@ pub fn is_listed(cells: &[u32], row: usize) -> bool
     ensures { result ≡ listed? (value_at cells.now row).values }
 {
     let at = start(cells.len(), row);
-    cell_at(cells, at + sizes::VALUE_KEPT) != 0
+    cell_at(cells, at + VALUE_KEPT) != 0
 }
 
 // What a copy of the value in a row costs. The value itself is not read: its ids are many.
@@ -231,8 +234,8 @@ fn put_ids(cells: &mut [u32], at: usize, ids: &[u16])
     requires { at ≤ length cells.old }
     ensures { cells.new ≡ sets cells.old (at + size.value_ids) (padded (size.value_row - size.value_ids) ids.now) }
 {
-    for j in 0..sizes::VALUE_ROW - sizes::VALUE_IDS {
-        put_cell(cells, at + sizes::VALUE_IDS + j, id_at(ids, j));
+    for j in 0..VALUE_ROW - VALUE_IDS {
+        put_cell(cells, at + VALUE_IDS + j, id_at(ids, j));
     }
 }
 
@@ -242,13 +245,10 @@ pub fn put_abstract(cells: &mut [u32], row: usize, value: Abstract)
     let at = start(cells.len(), row);
     let ids = listed_ids(&value);
     put_bound(cells, at, value.bound);
-    put_cell(cells, at + sizes::VALUE_KEPT, u32::from(value.kept));
-    put_cell(cells, at + sizes::VALUE_LENGTH, ids.len() as u32);
-    put_cell(
-        cells,
-        at + sizes::VALUE_REASON,
-        lattice::reason_number(value.reason),
-    );
+    put_cell(cells, at + VALUE_KEPT, u32::from(value.kept));
+    put_cell(cells, at + VALUE_LENGTH, ids.len() as u32);
+    let reason = lattice::reason_number(value.reason);
+    put_cell(cells, at + VALUE_REASON, reason);
     put_ids(cells, at, ids);
 }
 

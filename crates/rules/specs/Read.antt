@@ -45,13 +45,13 @@ unfoldable pub context_at : List ℕ → ℕ → Context
 context_at cells id = context_of (get_or cells (size.rule_row * id + size.rule_mark) 0) (get_or cells (size.rule_row * id + size.rule_context) 0)
 
 unfoldable pub binding_count : List ℕ → ℕ → ℕ
-binding_count cells id = min (get_or cells (size.rule_row * id + size.rule_lengths) 0) size.bindings
+binding_count cells id = min (get_or cells (size.rule_row * id + size.rule_binding_count) 0) size.bindings
 
 unfoldable pub guard_count : List ℕ → ℕ → ℕ
-guard_count cells id = min (get_or cells (size.rule_row * id + size.rule_lengths + 1) 0) size.guards
+guard_count cells id = min (get_or cells (size.rule_row * id + size.rule_guard_count) 0) size.guards
 
 unfoldable pub head_count : List ℕ → ℕ → ℕ
-head_count cells id = min (get_or cells (size.rule_row * id + size.rule_lengths + 2) 0) size.heads
+head_count cells id = min (get_or cells (size.rule_row * id + size.rule_head_count) 0) size.heads
 
 -- the j-th binding, guard and head; one beyond its count is what stands there
 abbrev pub binding_from : List ℕ → ℕ → Binding

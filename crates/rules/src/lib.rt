@@ -9,6 +9,11 @@ ghost use Rattle.sizes.specs.Sizes as size;
 ghost use Rattle.rules.specs.Rule.{function_number, relation_number, binding_cells, guard_cells, head_cells, fixed_cells, flat, cell, put_rule};
 ghost use Rattle.rules.specs.Read.{function_of, relation_of, binding_of, guard_of, slots_at, context_at, binding_count, guard_count, head_count, binding_at, guard_at, head_at};
 
+use sizes::{
+    RULE_BINDING_COUNT, RULE_BINDINGS, RULE_CONTEXT, RULE_GUARD_COUNT, RULE_GUARDS,
+    RULE_HEAD_COUNT, RULE_HEADS, RULE_MARK, RULE_ROW,
+};
+
 #[derive(Clone, Copy, Debug, PartialEq, Eq)]
 pub enum AggregateFunction {
     Count,
@@ -270,24 +275,15 @@ pub fn put_rule(cells: &mut [u32], id: usize, rule: Rule, context: Option<u32>)
     requires { (id < size.rules) × ((rule.lengths.bindings ≤ size.bindings) × ((rule.lengths.guards ≤ size.guards) × (rule.lengths.heads ≤ size.heads))) }
     ensures { cells.new ≡ put_rule cells.old id rule context }
 {
-    let at = sizes::RULE_ROW * id;
+    let at = RULE_ROW * id;
     let lengths = rule.lengths;
     put_fixed(cells, at, rule, context);
-    put_items(
-        cells,
-        at + sizes::RULE_BINDINGS,
-        &rule.bindings[..lengths.bindings as usize],
-    );
-    put_items(
-        cells,
-        at + sizes::RULE_GUARDS,
-        &rule.guards[..lengths.guards as usize],
-    );
-    put_items(
-        cells,
-        at + sizes::RULE_HEADS,
-        &rule.heads[..lengths.heads as usize],
-    );
+    let bindings = &rule.bindings[..lengths.bindings as usize];
+    put_items(cells, at + RULE_BINDINGS, bindings);
+    let guards = &rule.guards[..lengths.guards as usize];
+    put_items(cells, at + RULE_GUARDS, guards);
+    let heads = &rule.heads[..lengths.heads as usize];
+    put_items(cells, at + RULE_HEADS, heads);
 }
 
 // Where the j-th of things of one width begins; beyond the table, its end.
@@ -350,24 +346,24 @@ fn at_most(count: u32, room: usize) -> usize
 pub fn slots_at(cells: &[u32], id: usize) -> u64
     ensures { result ≡ slots_at cells.now id }
 {
-    let at = reach(cells.len(), sizes::RULE_ROW, id);
+    let at = reach(cells.len(), RULE_ROW, id);
     at_most(cells::cell_at(cells, at), sizes::SLOTS) as u64
 }
 
 pub fn context_at(cells: &[u32], id: usize) -> Option<u32>
     ensures { result ≡ context_at cells.now id }
 {
-    let at = reach(cells.len(), sizes::RULE_ROW, id);
-    let marked = cells::cell_at(cells, at + sizes::RULE_MARK) != 0;
-    marked.then_some(cells::cell_at(cells, at + sizes::RULE_CONTEXT))
+    let at = reach(cells.len(), RULE_ROW, id);
+    let marked = cells::cell_at(cells, at + RULE_MARK) != 0;
+    marked.then_some(cells::cell_at(cells, at + RULE_CONTEXT))
 }
 
 pub fn binding_count(cells: &[u32], id: usize) -> usize
     ensures { result ≡ binding_count cells.now id }
 {
-    let at = reach(cells.len(), sizes::RULE_ROW, id);
+    let at = reach(cells.len(), RULE_ROW, id);
     at_most(
-        cells::cell_at(cells, at + sizes::RULE_LENGTHS),
+        cells::cell_at(cells, at + RULE_BINDING_COUNT),
         sizes::BINDINGS,
     )
 }
@@ -375,21 +371,15 @@ pub fn binding_count(cells: &[u32], id: usize) -> usize
 pub fn guard_count(cells: &[u32], id: usize) -> usize
     ensures { result ≡ guard_count cells.now id }
 {
-    let at = reach(cells.len(), sizes::RULE_ROW, id);
-    at_most(
-        cells::cell_at(cells, at + sizes::RULE_LENGTHS + 1),
-        sizes::GUARDS,
-    )
+    let at = reach(cells.len(), RULE_ROW, id);
+    at_most(cells::cell_at(cells, at + RULE_GUARD_COUNT), sizes::GUARDS)
 }
 
 pub fn head_count(cells: &[u32], id: usize) -> usize
     ensures { result ≡ head_count cells.now id }
 {
-    let at = reach(cells.len(), sizes::RULE_ROW, id);
-    at_most(
-        cells::cell_at(cells, at + sizes::RULE_LENGTHS + 2),
-        sizes::HEADS,
-    )
+    let at = reach(cells.len(), RULE_ROW, id);
+    at_most(cells::cell_at(cells, at + RULE_HEAD_COUNT), sizes::HEADS)
 }
 
 // Table and id stay two parameters here and above: a caller has an id, and a struct of the two would be made for each call.
@@ -398,9 +388,7 @@ pub fn head_count(cells: &[u32], id: usize) -> usize
 pub fn binding_at(cells: &[u32], id: usize, j: usize) -> Binding
     ensures { result ≡ binding_at cells.now id j }
 {
-    let at = reach(cells.len(), sizes::RULE_ROW, id)
-        + sizes::RULE_BINDINGS
-        + reach(cells.len(), 4, j);
+    let at = reach(cells.len(), RULE_ROW, id) + RULE_BINDINGS + reach(cells.len(), 4, j);
     binding_of(
         cells::cell_at(cells, at),
         cells::cell_at(cells, at + 1),
@@ -412,9 +400,7 @@ pub fn binding_at(cells: &[u32], id: usize, j: usize) -> Binding
 pub fn guard_at(cells: &[u32], id: usize, j: usize) -> Guard
     ensures { result ≡ guard_at cells.now id j }
 {
-    let at = reach(cells.len(), sizes::RULE_ROW, id)
-        + sizes::RULE_GUARDS
-        + reach(cells.len(), 4, j);
+    let at = reach(cells.len(), RULE_ROW, id) + RULE_GUARDS + reach(cells.len(), 4, j);
     guard_of(
         cells::cell_at(cells, at),
         cells::cell_at(cells, at + 1),
@@ -426,7 +412,7 @@ pub fn guard_at(cells: &[u32], id: usize, j: usize) -> Guard
 pub fn head_at(cells: &[u32], id: usize, j: usize) -> Head
     ensures { result ≡ head_at cells.now id j }
 {
-    let at = reach(cells.len(), sizes::RULE_ROW, id) + sizes::RULE_HEADS + reach(cells.len(), 2, j);
+    let at = reach(cells.len(), RULE_ROW, id) + RULE_HEADS + reach(cells.len(), 2, j);
     Head {
         argument: u64::from(cells::cell_at(cells, at)),
         value: u64::from(cells::cell_at(cells, at + 1)),

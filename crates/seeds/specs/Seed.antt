@@ -13,7 +13,7 @@ use Rattle.limits.specs.Budget.{work, released, widened_once}
 use Rattle.interval.specs.declared.Interval.TheVariants.{Bounded}
 use Rattle.lattice.specs.Value.{Value}
 use Rattle.lattice.specs.Constants.{constant_at}
-use Rattle.lattice.specs.Lattice.{constant, numeric, join}
+use Rattle.lattice.specs.Lattice.{constant, numeric, join, loses}
 use Rattle.rows.specs.Row.{entries_of, value_at, put}
 use Rattle.thresholds.specs.Thresholds.{around}
 use Rattle.store.specs.declared.Store.{Store}

@@ -97,8 +97,14 @@ rule_mark = 1
 abbrev pub rule_context : ℕ
 rule_context = 2
 
-abbrev pub rule_lengths : ℕ
-rule_lengths = 3
+abbrev pub rule_binding_count : ℕ
+rule_binding_count = 3
+
+abbrev pub rule_guard_count : ℕ
+rule_guard_count = 4
+
+abbrev pub rule_head_count : ℕ
+rule_head_count = 5
 
 abbrev pub rule_bindings : ℕ
 rule_bindings = 6

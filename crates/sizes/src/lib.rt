@@ -70,7 +70,11 @@ pub const RULE_MARK: usize = 1;
 
 pub const RULE_CONTEXT: usize = 2;
 
-pub const RULE_LENGTHS: usize = 3;
+pub const RULE_BINDING_COUNT: usize = 3;
+
+pub const RULE_GUARD_COUNT: usize = 4;
+
+pub const RULE_HEAD_COUNT: usize = 5;
 
 pub const RULE_BINDINGS: usize = 6;
 

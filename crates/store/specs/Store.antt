@@ -5,6 +5,7 @@ use Rattle.limits.specs.declared.Limits.{Limits}
 use Rattle.limits.specs.declared.Budget.{Budget}
 use Rattle.limits.specs.declared.Refusal.TheVariants.{Shape}
 use Rattle.limits.specs.Refusal.{Told, told}
+use Rattle.limits.specs.Context.{Context}
 use Rattle.limits.specs.Records.{fresh_budget}
 use Rattle.limits.specs.Metered.{Run, going, stopped}
 use Rattle.store.specs.declared.Phase.{Phase}

@@ -3,13 +3,13 @@ use Rattle.nodes.proofs.CodeLaws.{as_unary, as_absolute, as_binary, no_unary, no
 use Rattle.nodes.proofs.expression_of.Goals as goal
 
 pub returns-in-2 : goal.returns-in-2
-returns-in-2 c = as_unary c.args.node c.args.id c.if-node-id.true c.in-2.is c.unary_of.ensures
+returns-in-2 c = as_unary c.args.node c.args.id c.if-node-id.true c.in-2.is c.read_unary.ensures
 
 pub returns-in-3 : goal.returns-in-3
 returns-in-3 c = as_absolute c.args.node c.args.id c.if-node-id-2.true c.in-3.is
 
 pub returns-in-4 : goal.returns-in-4
-returns-in-4 c = as_binary c.args.node c.args.id c.if-node-id-3.true c.if-node-id-4.true c.in-4.is c.binary_of.ensures
+returns-in-4 c = as_binary c.args.node c.args.id c.if-node-id-3.true c.if-node-id-4.true c.in-4.is c.read_binary.ensures
 
 pub returns-in_default : goal.returns-in_default
 returns-in_default c = no_unary c.args.node c.args.id c.if-node-id.false c.in-2.is

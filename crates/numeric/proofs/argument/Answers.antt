@@ -3,6 +3,6 @@ use Rattle.numeric.specs.Reading.{argument_reading}
 use Rattle.numeric.proofs.ReadingLaws.{turned_down, not_read}
 use Rattle.numeric.proofs.argument.Goals as goal
 
-pub returns-in_err-permit : goal.returns-in_err-permit
+pub returns-in_err-readable : goal.returns-in_err-readable
 unfolding argument_reading
-returns-in_err-permit c = not_read _ _ _ c.from_residual.ensures.1 (turned_down c.args.store.now _ _ c.permit.ensures c.in_err-permit.was)
+returns-in_err-readable c = not_read _ _ _ c.from_residual.ensures.1 (turned_down c.args.store.now _ _ c.readable.ensures c.in_err-readable.was)

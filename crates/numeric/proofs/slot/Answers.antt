@@ -5,14 +5,14 @@ use Rattle.numeric.specs.Reading.{slot_reading}
 use Rattle.numeric.proofs.ReadingLaws.{in_table, place_fits, turned_down, not_read}
 use Rattle.numeric.proofs.slot.Goals as goal
 
-pub returns-in_err-permit : goal.returns-in_err-permit
+pub returns-in_err-readable : goal.returns-in_err-readable
 unfolding slot_reading
-returns-in_err-permit c = not_read _ _ _ c.from_residual.ensures.1 (turned_down c.args.store.now _ _ (rw c.is_slots_sized.ensures at c.permit.ensures) c.in_err-permit.was)
+returns-in_err-readable c = not_read _ _ _ c.from_residual.ensures.1 (turned_down c.args.store.now _ _ (rw c.is_slots_sized.ensures at c.readable.ensures) c.in_err-readable.was)
 
-pub place-requires : goal.place-requires
-place-requires c = in_table c.args.rules.now c.args.rule c.args.slot (length c.args.slots.now) c.args.store.now.phase (sym (rw c.is_slots_sized.ensures at c.permit.ensures) ∙ c.in_ok-permit.was) (rw c.slots_at.ensures at c.if-slots_at-slot.false)
+pub bound_place-requires : goal.bound_place-requires
+bound_place-requires c = in_table c.args.rules.now c.args.rule c.args.slot (length c.args.slots.now) c.args.store.now.phase (sym (rw c.is_slots_sized.ensures at c.readable.ensures) ∙ c.in_ok-readable.was) (rw c.slots_at.ensures at c.if-slots_at-slot.false)
 
 pub bound_at-requires : goal.bound_at-requires
 bound_at-requires c =
-    let t = in_table c.args.rules.now c.args.rule c.args.slot (length c.args.slots.now) c.args.store.now.phase (sym (rw c.is_slots_sized.ensures at c.permit.ensures) ∙ c.in_ok-permit.was) (rw c.slots_at.ensures at c.if-slots_at-slot.false) in
-    place_fits c.args.rule c.args.slot c.args.after c.place.ensures t.0 t.1
+    let t = in_table c.args.rules.now c.args.rule c.args.slot (length c.args.slots.now) c.args.store.now.phase (sym (rw c.is_slots_sized.ensures at c.readable.ensures) ∙ c.in_ok-readable.was) (rw c.slots_at.ensures at c.if-slots_at-slot.false) in
+    place_fits c.args.rule c.args.slot c.args.after c.bound_place.ensures t.0 t.1

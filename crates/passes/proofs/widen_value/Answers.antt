@@ -17,4 +17,4 @@ returns-in_err-wide c =
 pub returns : goal.returns
 unfolding widen_value
 returns c =
-    bind_on _ _ _ (went (held (value_of c.args.value) (widen _ _ _ _) _ c.entries_of.ensures _ _ c.widen-wide.ensures _ _ c.holding.ensures) c.in_ok-wide.was) (rw (← c.within.ensures) c.compare.ensures)
+    bind_on _ _ _ (went (held (value_of c.args.value) (widen _ _ _ _) _ c.entries_of.ensures _ _ c.widen-wide.ensures _ _ c.holding.ensures) c.in_ok-wide.was) (rw (← c.within.ensures) c.with_change.ensures)

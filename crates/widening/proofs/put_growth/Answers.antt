@@ -2,8 +2,8 @@
 use Rattle.widening.proofs.CodeLaws.{put_beyond, put_both}
 use Rattle.widening.proofs.put_growth.Goals as goal
 
-pub returns-then-argument-lt-ARGUMENTS : goal.returns-then-argument-lt-ARGUMENTS
-returns-then-argument-lt-ARGUMENTS c = put_both _ _ c.args.growth c.if-argument-lt-ARGUMENTS.true c.put_cell.ensures c.put_cell-then-argument-lt-ARGUMENTS.ensures
+pub returns-then-argument-lt-POSITIONS : goal.returns-then-argument-lt-POSITIONS
+returns-then-argument-lt-POSITIONS c = put_both _ _ c.args.growth c.if-argument-lt-POSITIONS.true c.put_cell.ensures c.put_cell-then-argument-lt-POSITIONS.ensures
 
-pub returns-else-argument-lt-ARGUMENTS : goal.returns-else-argument-lt-ARGUMENTS
-returns-else-argument-lt-ARGUMENTS c = put_beyond _ _ c.args.growth c.if-argument-lt-ARGUMENTS.false
+pub returns-else-argument-lt-POSITIONS : goal.returns-else-argument-lt-POSITIONS
+returns-else-argument-lt-POSITIONS c = put_beyond _ _ c.args.growth c.if-argument-lt-POSITIONS.false

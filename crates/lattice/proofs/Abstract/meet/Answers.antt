@@ -12,4 +12,4 @@ pub returns-in-Some : goal.returns-in-Some
 returns-in-Some c = meet_through _ _ _ _ (went c.work.ensures c.in_ok-work.was) c.meet.ensures c.in-Some.ensures.list c.through.ensures
 
 pub returns-in-None : goal.returns-in-None
-returns-in-None c = meet_without _ _ _ _ (went c.work.ensures c.in_ok-work.was) c.meet.ensures c.in-None.ensures.list c.without.ensures
+returns-in-None c = meet_without _ _ _ _ (went c.work.ensures c.in_ok-work.was) c.meet.ensures c.in-None.ensures.list c.bare.ensures
