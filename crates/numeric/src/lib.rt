@@ -12,7 +12,7 @@ ghost use Rattle.numeric.specs.Answers.{readable, reads, kind, status};
 use interval::{Bound, Constant};
 use lattice::Abstract;
 use limits::{Refusal, Stop};
-use sizes::{BOUND_ROW, BOUNDS_ROW, RECORD_ROW, SLOT_ROW};
+use sizes::{BOUND_ROW, BOUNDS_ROW, RECORD_ROW, RECORDS, SLOT_ROW};
 use store::{Phase, Store};
 
 // How the run ended: stopped, with its Stop and the context in force there.
@@ -96,11 +96,7 @@ pub fn context_count(store: &Store, records: &[u32], argument: u64) -> Result<u6
     if store.counts.positions as u64 <= argument {
         return Err(Refusal::Missing);
     }
-    Ok(count_contexts(
-        records,
-        store.counts.provenance.min(sizes::RECORDS),
-        argument,
-    ))
+    Ok(count_contexts(records, store.counts.provenance.min(RECORDS), argument))
 }
 
 // The k-th of them, in the order recorded.
@@ -112,12 +108,7 @@ pub fn context(store: &Store, records: &[u32], argument: u64, k: u64) -> Result<
     if store.counts.positions as u64 <= argument {
         return Err(Refusal::Missing);
     }
-    find_context(
-        records,
-        store.counts.provenance.min(sizes::RECORDS),
-        argument,
-        k,
-    )
+    find_context(records, store.counts.provenance.min(RECORDS), argument, k)
 }
 
 // The bound that stands at a place of the table of slots.
