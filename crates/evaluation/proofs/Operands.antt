@@ -19,7 +19,7 @@ use Rattle.interval.specs.declared.Bound.{Bound}
 use Rattle.interval.specs.declared.Integrality.{Integrality}
 use Rattle.interval.specs.declared.Integrality.TheVariants.{Integer, Mixed}
 use Rattle.interval.specs.Interval.{meet_of}
-use Rattle.interval.specs.Bound.{bottom_of, numeric_of, meet_bound, same_bound}
+use Rattle.interval.specs.Bound.{bottom_bound, numeric_bound, meet_bound, same_bound}
 use Rattle.lattice.specs.Value.{Value, Reason, value}
 use Rattle.lattice.specs.Lattice.{numeric, copied, sift, reduce, source, meet_lists, meet, refine}
 use Rattle.rows.specs.Row.{listed?, list_of, entries_of}
@@ -127,11 +127,11 @@ common constants b reason i = meet_lists (value b none reason) (numeric i) (meet
 abbrev bare : Bound → Operand
 bare b = record { bound = b; entries = 0 }
 
-met_empty : (b : Bound) → meet_bound (meet_bound b bottom_of) bottom_of ≡ meet_bound b bottom_of
+met_empty : (b : Bound) → meet_bound (meet_bound b bottom_bound) bottom_bound ≡ meet_bound b bottom_bound
 unfolding meet_of
 met_empty b = go b.integrality b.interval
   where
-    go : (g : Integrality) (x : Interval) → meet_bound (meet_bound (record { integrality = g; interval = x }) bottom_of) bottom_of ≡ meet_bound (record { integrality = g; interval = x }) bottom_of
+    go : (g : Integrality) (x : Interval) → meet_bound (meet_bound (record { integrality = g; interval = x }) bottom_bound) bottom_bound ≡ meet_bound (record { integrality = g; interval = x }) bottom_bound
     go Integer Bottom = refl
     go Integer (Bounded low high) = refl
     go Integer Unbounded = refl
@@ -146,11 +146,11 @@ no_list false = refl
 seen_bare : (b : Bound) (m : Meter) {n : ℕ} → n ≡ 0 → ◌≡◌ {A = Run Stop Meter Operand} (going (bare b) m) (going (record { bound = b; entries = n }) m)
 seen_bare b m e = rw e refl
 
-common_seen : (constants : List ℕ) (b : Bound) (reason : Reason) (i : Interval) (m : Meter) → going (bare (meet_bound b (numeric_of i))) m ≡ sees (common constants b reason i m)
+common_seen : (constants : List ℕ) (b : Bound) (reason : Reason) (i : Interval) (m : Meter) → going (bare (meet_bound b (numeric_bound i))) m ≡ sees (common constants b reason i m)
 unfolding sift reduce fold_m ◌>>=◌ after pure
 common_seen constants b reason Bottom m = ap (λ (c : Bound). going (bare c) m) (sym (met_empty b))
-common_seen constants b reason (Bounded low high) m = seen_bare _ m (no_list (same_bound (meet_bound b (numeric_of (Bounded low high))) bottom_of))
-common_seen constants b reason Unbounded m = seen_bare _ m (no_list (same_bound (meet_bound b (numeric_of Unbounded)) bottom_of))
+common_seen constants b reason (Bounded low high) m = seen_bare _ m (no_list (same_bound (meet_bound b (numeric_bound (Bounded low high))) bottom_bound))
+common_seen constants b reason Unbounded m = seen_bare _ m (no_list (same_bound (meet_bound b (numeric_bound Unbounded)) bottom_bound))
 
 module _ (b : Bound) (i : Interval) (m : Meter) where
   pub bound_mixed : b.integrality ≡ Mixed → (constants : List ℕ) (reason : Reason) → going (bare b) m ≡ sees (narrow constants i (value b none reason) m)
@@ -172,7 +172,7 @@ module _ (b : Bound) (i : Interval) (m : Meter) where
     pub bound_refused : {s : Stop} {t : Meter} → stopped s t ≡ work 1 m → (constants : List ℕ) (reason : Reason) → stopped s t ≡ sees (narrow constants i (value b none reason) m)
     bound_refused q constants reason = ap sees (then_stop (work 1) m _ q ∙ narrow_is constants reason)
 
-    pub bound_met : {t : Meter} {j d : Bound} → going tt t ≡ work 1 m → j ≡ numeric_of i → d ≡ meet_bound b j → (constants : List ℕ) (reason : Reason) →
+    pub bound_met : {t : Meter} {j d : Bound} → going tt t ≡ work 1 m → j ≡ numeric_bound i → d ≡ meet_bound b j → (constants : List ℕ) (reason : Reason) →
         going (bare d) t ≡ sees (narrow constants i (value b none reason) m)
     bound_met {t} q ej ed constants reason =
         ap (λ (c : Bound). going (bare c) t) (ed ∙ ap (meet_bound b) ej) ∙ common_seen constants b reason i t ∙ ap sees (then_on (work 1) m _ q refl ∙ narrow_is constants reason)

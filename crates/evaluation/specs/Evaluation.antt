@@ -7,7 +7,7 @@ use Rattle.limits.specs.declared.Meter.{Meter}
 use Rattle.limits.specs.Meter.{work, holding, dropping}
 use Rattle.interval.specs.declared.Interval.{Interval}
 use Rattle.interval.specs.declared.Interval.TheVariants.{Bottom, Bounded, Unbounded}
-use Rattle.interval.specs.Bound.{numeric_of}
+use Rattle.interval.specs.Bound.{numeric_bound}
 use Rattle.lattice.specs.declared.Widening.{Widening}
 use Rattle.lattice.specs.declared.Widening.TheVariants.{HeadForm}
 use Rattle.std.specs.Prelude.{Some}
@@ -73,7 +73,7 @@ after_two nodes constants op l r a b =
     dropping (entries_of b) (work 1 >> (combined nodes constants op l r a.bound.interval b.bound.interval >>= (λ i. pure (numeric i))))
 
 abbrev pub unknown : Bool → Widening → Value
-unknown true w = value (numeric_of Unbounded) none (Some w)
+unknown true w = value (numeric_bound Unbounded) none (Some w)
 unknown false w = top (Some w)
 
 -- ---- `expression`, left child first

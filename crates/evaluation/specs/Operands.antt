@@ -5,7 +5,7 @@ use Rattle.limits.specs.Metered.{Run, going, stopped, Metered, pure, ◌>>=◌, 
 use Rattle.limits.specs.declared.Meter.{Meter}
 use Rattle.limits.specs.Meter.{work, dropping}
 use Rattle.interval.specs.declared.Interval.{Interval}
-use Rattle.interval.specs.Bound.{numeric_of}
+use Rattle.interval.specs.Bound.{numeric_bound}
 use Rattle.lattice.specs.Value.{Value}
 use Rattle.lattice.specs.Lattice.{numeric}
 use Rattle.rows.specs.Row.{entries_of}
@@ -31,7 +31,7 @@ operand v = record { bound = v.bound; entries = entries_of v }
 
 -- a numeric value has no list
 abbrev pub numeral : Interval → Operand
-numeral i = record { bound = numeric_of i; entries = 0 }
+numeral i = record { bound = numeric_bound i; entries = 0 }
 
 -- the same run with its value as f shows it
 abbrev pub shown : {A B : Type 0} → (A → B) → Run Stop Meter A → Run Stop Meter B

@@ -11,7 +11,7 @@ use Rattle.limits.specs.Meter.{meter}
 use Rattle.interval.specs.declared.Interval.{Interval}
 use Rattle.interval.specs.declared.Interval.TheVariants.{Bottom, Bounded}
 use Rattle.interval.specs.Interval.{hull_of, meet_of, endpoints_of, checked_of}
-use Rattle.interval.specs.Bound.{top_of}
+use Rattle.interval.specs.Bound.{top_bound}
 use Rattle.lattice.specs.declared.Widening.TheVariants.{ValueWidth}
 use Rattle.std.specs.Prelude.{None, Some}
 use Rattle.lattice.specs.Value.{Value, value}
@@ -46,7 +46,7 @@ low ‥ high = Bounded (pos low) (pos high)
 
 -- any value with this list
 abbrev pub listed : List ℕ → Value
-listed l = value top_of (some l) None
+listed l = value top_bound (some l) None
 
 abbrev pub completed : {A : Type 0} → Run Stop Meter A → Option A
 completed (going a m) = some a
@@ -95,7 +95,7 @@ table =
     -- K4 "lists {1,3} and {3}, width 2: {1,3}"
     (run (join 2 (listed (1 ∷ 3 ∷ [])) (listed (3 ∷ []))) is some (listed (1 ∷ 3 ∷ []))) ∷
     -- K5 "{1,3} and {5}, width 2: none, ValueWidth"
-    (run (join 2 (listed (1 ∷ 3 ∷ [])) (listed (5 ∷ []))) is some (value top_of none (Some ValueWidth))) ∷
+    (run (join 2 (listed (1 ∷ 3 ∷ [])) (listed (5 ∷ []))) is some (value top_bound none (Some ValueWidth))) ∷
     -- K6 "seed 3..3 accepted"
     (seeding 3 3 is accepted) ∷
     -- K7 "4..3 refused by 5"

@@ -17,9 +17,10 @@ use Rattle.interval.specs.declared.Bound.{Bound}
 use Rattle.interval.specs.declared.TheConstants.Bound.{TOP, BOTTOM}
 use Rattle.interval.specs.declared.Constant.{Constant}
 use Rattle.interval.specs.declared.Constant.TheVariants.{Number as number, Name, Large}
-use Rattle.interval.specs.Cousot.{at, Cousot, empty, between, from_to, join, meet, ◌⊑◌, ◌∋◌}
+use Rattle.interval.specs.Cousot.{−∞, from, to, +∞, Cousot, empty, between, from_to, join, meet, ◌⊑◌, ◌∋◌}
 use Rattle.interval.specs.Interval.{cousot, interval, hull_of, meet_of, checked_of, contains_of, same_of}
-use Rattle.interval.specs.Bound.{top_of, bottom_of, constant_of, either_of, both_of, mixed, hull_bound, meet_bound, same_integrality, same_bound, allows_of, HasNumber, HasNames}
+use Rattle.interval.specs.Bound.{join_integrality, meet_integrality, same_integrality, mixed, HasNumber, HasNames}
+use Rattle.interval.specs.Bound.{top_bound, bottom_bound, constant_bound, hull_bound, meet_bound, same_bound, allows_of}
 use Rattle.interval.proofs.Lattice.{⊑_trans, join_left, join_right, meet_left, meet_right, meet_greatest}
 
 -- ---- nothing is lost in coming back from the intervals of Cousot and Cousot
@@ -32,7 +33,7 @@ interval_cousot Unbounded = refl
 pub cousot_injective : (x y : Interval) → cousot x ≡ cousot y → x ≡ y
 cousot_injective x y e = sym (interval_cousot x) ∙ ap interval e ∙ interval_cousot y
 
-from_to_back : (a b : ℤ) → cousot (interval (from_to (at a) (at b))) ≡ from_to (at a) (at b)
+from_to_back : (a b : ℤ) → cousot (interval (from_to (from a) (to b))) ≡ from_to (from a) (to b)
 from_to_back a b = by_cond (λ x. cousot (interval x) ≡ x) (le_z a b) (λ _. refl) (λ _. refl)
 
 pub join_back : (x y : Interval) → cousot (hull_of x y) ≡ join (cousot x) (cousot y)
@@ -55,18 +56,21 @@ meet_back Unbounded Bottom = refl
 meet_back Unbounded (Bounded c d) = from_to_back c d
 meet_back Unbounded Unbounded = refl
 
-pub checked_back : (low high : ℤ) → cousot (checked_of low high) ≡ meet (between (at low) (at high)) (between (at least32) (at greatest32))
+pub checked_back : (low high : ℤ) → cousot (checked_of low high) ≡ meet (between (from low) (to high)) (between (from least32) (to greatest32))
 unfolding checked_of
 checked_back low high = from_to_back (max_z low least32) (min_z high greatest32)
 
 -- ---- the integers of a join and of a meet: an interval has n if the interval of n alone lies within it
 
-has_below : (x : Cousot) (n : ℤ) → (x ∋ n) ↔ (between (at n) (at n) ⊑ x)
+has_below : (x : Cousot) (n : ℤ) → (x ∋ n) ↔ (between (from n) (to n) ⊑ x)
 has_below empty n = (λ h. h, λ h. h)
-has_below (between a b) n = (λ h. h, λ h. h)
+has_below (between −∞ (to b)) n = (λ h. h, λ h. h)
+has_below (between −∞ +∞) n = (λ h. h, λ h. h)
+has_below (between (from a) (to b)) n = (λ h. h, λ h. h)
+has_below (between (from a) +∞) n = (λ h. h, λ h. h)
 
 has_more : (x y : Cousot) (n : ℤ) → x ⊑ y → x ∋ n → y ∋ n
-has_more x y n p h = (has_below y n).1 (⊑_trans (between (at n) (at n)) x y ((has_below x n).0 h) p)
+has_more x y n p h = (has_below y n).1 (⊑_trans (between (from n) (to n)) x y ((has_below x n).0 h) p)
 
 pub join_has : (x y : Cousot) (n : ℤ) → (x ∋ n) ⊎ (y ∋ n) → join x y ∋ n
 join_has x y n h = ⊎_elim (has_more x (join x y) n (join_left x y)) (has_more y (join x y) n (join_right x y)) h
@@ -75,7 +79,7 @@ pub meet_has : (x y : Cousot) (n : ℤ) → (meet x y ∋ n) ↔ ((x ∋ n) × (
 meet_has x y n = (
   λ h. (has_more (meet x y) x n (meet_left x y) h, has_more (meet x y) y n (meet_right x y) h),
   λ h. (has_below (meet x y) n).1
-      (meet_greatest x y (between (at n) (at n)) (omega arith) ((has_below x n).0 h.0) ((has_below y n).0 h.1)),
+      (meet_greatest x y (between (from n) (to n)) (omega arith) ((has_below x n).0 h.0) ((has_below y n).0 h.1)),
 )
 
 -- ---- the numbers of intervals
@@ -90,7 +94,7 @@ meet_of_has x y n = rw (meet_back x y) (meet_has (cousot x) (cousot y) n)
 
 -- `checked` has the numbers of 32 bits from low to high
 pub checked_has_all : (low high n : ℤ) → (cousot (checked_of low high) ∋ n) ↔ (Between low high n × Number n)
-checked_has_all low high n = rw (checked_back low high) (meet_has (between (at low) (at high)) (between (at least32) (at greatest32)) n)
+checked_has_all low high n = rw (checked_back low high) (meet_has (between (from low) (to high)) (between (from least32) (to greatest32)) n)
 
 pub checked_has : (low high n : ℤ) → Number n → (cousot (checked_of low high) ∋ n) ↔ Between low high n
 checked_has low high n f = (λ h. ((checked_has_all low high n).0 h).0, λ h. (checked_has_all low high n).1 (h, f))
@@ -115,19 +119,19 @@ hull_number u v n h = hull_has u.interval v.interval n h
 pub meet_number : (u v : Bound) (n : ℤ) → HasNumber (meet_bound u v) n ↔ (HasNumber u n × HasNumber v n)
 meet_number u v n = meet_of_has u.interval v.interval n
 
-either_names : (a b : Integrality) → HasNames (either_of a b) ↔ (HasNames a ⊎ HasNames b)
-either_names Integer b = (λ h. inr h, λ h. ⊎_elim (λ n. absurd n) (λ n. n) h)
-either_names Mixed b = (λ h. inl tt, λ h. tt)
+join_integrality_names : (a b : Integrality) → HasNames (join_integrality a b) ↔ (HasNames a ⊎ HasNames b)
+join_integrality_names Integer b = (λ h. inr h, λ h. ⊎_elim (λ n. absurd n) (λ n. n) h)
+join_integrality_names Mixed b = (λ h. inl tt, λ h. tt)
 
-both_names : (a b : Integrality) → HasNames (both_of a b) ↔ (HasNames a × HasNames b)
-both_names Integer b = (λ h. absurd h, λ h. absurd h.0)
-both_names Mixed b = (λ h. (tt, h), λ h. h.1)
+meet_integrality_names : (a b : Integrality) → HasNames (meet_integrality a b) ↔ (HasNames a × HasNames b)
+meet_integrality_names Integer b = (λ h. absurd h, λ h. absurd h.0)
+meet_integrality_names Mixed b = (λ h. (tt, h), λ h. h.1)
 
 pub hull_names : (u v : Bound) → HasNames (hull_bound u v).integrality ↔ (HasNames u.integrality ⊎ HasNames v.integrality)
-hull_names u v = either_names u.integrality v.integrality
+hull_names u v = join_integrality_names u.integrality v.integrality
 
 pub meet_names : (u v : Bound) → HasNames (meet_bound u v).integrality ↔ (HasNames u.integrality × HasNames v.integrality)
-meet_names u v = both_names u.integrality v.integrality
+meet_names u v = meet_integrality_names u.integrality v.integrality
 
 -- `allows`: exactly if the constant lies in the bound
 pub allows_number : (b : Bound) (n : ℤ) → Number n → (allows_of b (number n) ≡ true) ↔ HasNumber b n
@@ -144,25 +148,25 @@ pub allows_large : (b : Bound) → (allows_of b Large ≡ true) ↔ HasNames b.i
 allows_large b = mixed_names b.integrality
 
 -- `constant`: a number's bound has that number and nothing else, a name's has names and no number
-pub constant_number_lem : (n m : ℤ) → HasNumber (constant_of (number n)) m ↔ (m ≡ n)
+pub constant_number_lem : (n m : ℤ) → HasNumber (constant_bound (number n)) m ↔ (m ≡ n)
 constant_number_lem n m = (λ h. le_antisym m n h.1 h.0, λ e. rw e (omega arith, omega arith))
 
-pub number_no_names : (n : ℤ) → HasNames (constant_of (number n)).integrality → ⊥
+pub number_no_names : (n : ℤ) → HasNames (constant_bound (number n)).integrality → ⊥
 number_no_names n h = h
 
-pub constant_name_lem : HasNames (constant_of Name).integrality
+pub constant_name_lem : HasNames (constant_bound Name).integrality
 constant_name_lem = tt
 
-pub constant_large : HasNames (constant_of Large).integrality
+pub constant_large : HasNames (constant_bound Large).integrality
 constant_large = tt
 
-pub name_no_number : (n : ℤ) → HasNumber (constant_of Name) n → ⊥
+pub name_no_number : (n : ℤ) → HasNumber (constant_bound Name) n → ⊥
 name_no_number n h = h
 
-pub large_no_number : (n : ℤ) → HasNumber (constant_of Large) n → ⊥
+pub large_no_number : (n : ℤ) → HasNumber (constant_bound Large) n → ⊥
 large_no_number n h = h
 
-pub constant_allowed : (c : Constant) → allows_of (constant_of c) c ≡ true
+pub constant_allowed : (c : Constant) → allows_of (constant_bound c) c ≡ true
 constant_allowed (number n) = (within_ends_lem n n n).1 (omega arith, omega arith)
 constant_allowed Name = refl
 constant_allowed Large = refl
@@ -223,8 +227,8 @@ unbounded_hull = refl
 
 -- ---- the two constants of the code
 
-pub top_is : TOP ≡ top_of
+pub top_is : TOP ≡ top_bound
 top_is = refl
 
-pub bottom_is : BOTTOM ≡ bottom_of
+pub bottom_is : BOTTOM ≡ bottom_bound
 bottom_is = refl

@@ -10,36 +10,36 @@ use Rattle.interval.specs.declared.Constant.TheVariants.{Number, Name, Large}
 use Rattle.interval.specs.Cousot.{◌∋◌}
 use Rattle.interval.specs.Interval.{cousot, hull_of, meet_of, contains_of, same_of}
 
-abbrev pub top_of : Bound
-top_of = record { integrality = Mixed; interval = Unbounded }
+abbrev pub top_bound : Bound
+top_bound = record { integrality = Mixed; interval = Unbounded }
 
-abbrev pub bottom_of : Bound
-bottom_of = record { integrality = Integer; interval = Bottom }
+abbrev pub bottom_bound : Bound
+bottom_bound = record { integrality = Integer; interval = Bottom }
 
-abbrev pub numeric_of : Interval → Bound
-numeric_of i = record { integrality = Integer; interval = i }
+abbrev pub numeric_bound : Interval → Bound
+numeric_bound i = record { integrality = Integer; interval = i }
 
 -- a constant's bound: a number alone, or a name
-abbrev pub constant_of : Constant → Bound
-constant_of (Number n) = record { integrality = Integer; interval = Bounded n n }
-constant_of Name = record { integrality = Mixed; interval = Bottom }
-constant_of Large = record { integrality = Mixed; interval = Bottom }
+abbrev pub constant_bound : Constant → Bound
+constant_bound (Number n) = record { integrality = Integer; interval = Bounded n n }
+constant_bound Name = record { integrality = Mixed; interval = Bottom }
+constant_bound Large = record { integrality = Mixed; interval = Bottom }
 
--- numbers alone where both have numbers alone
-abbrev pub either_of : Integrality → Integrality → Integrality
-either_of Integer b = b
-either_of Mixed b = Mixed
+-- the join has numbers alone where both have
+abbrev pub join_integrality : Integrality → Integrality → Integrality
+join_integrality Integer b = b
+join_integrality Mixed b = Mixed
 
--- numbers alone where one has numbers alone
-abbrev pub both_of : Integrality → Integrality → Integrality
-both_of Integer b = Integer
-both_of Mixed b = b
+-- the meet has numbers alone where one has
+abbrev pub meet_integrality : Integrality → Integrality → Integrality
+meet_integrality Integer b = Integer
+meet_integrality Mixed b = b
 
 abbrev pub hull_bound : Bound → Bound → Bound
-hull_bound u v = record { integrality = either_of u.integrality v.integrality; interval = hull_of u.interval v.interval }
+hull_bound u v = record { integrality = join_integrality u.integrality v.integrality; interval = hull_of u.interval v.interval }
 
 abbrev pub meet_bound : Bound → Bound → Bound
-meet_bound u v = record { integrality = both_of u.integrality v.integrality; interval = meet_of u.interval v.interval }
+meet_bound u v = record { integrality = meet_integrality u.integrality v.integrality; interval = meet_of u.interval v.interval }
 
 abbrev pub same_integrality : Integrality → Integrality → Bool
 same_integrality Integer Integer = true

@@ -4,22 +4,21 @@ use Rattle.std.specs.Int.Signed.{le_z}
 use Rattle.integers.specs.Order.{least32, greatest32, eq_z}
 use Rattle.interval.specs.declared.Interval.{Interval}
 use Rattle.interval.specs.declared.Interval.TheVariants.{Bottom, Bounded, Unbounded}
-use Rattle.interval.specs.Cousot.{−∞, at, +∞, Cousot, empty, between, from_to, join, meet}
+use Rattle.interval.specs.Cousot.{−∞, from, to, +∞, Cousot, empty, between, from_to, join, meet}
 
 -- the interval of Cousot and Cousot that each case is
 abbrev pub cousot : Interval → Cousot
 cousot Bottom = empty
-cousot (Bounded low high) = between (at low) (at high)
+cousot (Bounded low high) = between (from low) (to high)
 cousot Unbounded = between −∞ +∞
 
--- and back: theirs that arise here have two finite ends or none (`join_back`, `meet_back`)
+-- and back: a half-open one does not arise here (`join_back`, `meet_back`)
 abbrev pub interval : Cousot → Interval
 interval empty = Bottom
-interval (between (at low) (at high)) = Bounded low high
-interval (between (at low) −∞) = Unbounded
-interval (between (at low) +∞) = Unbounded
-interval (between −∞ b) = Unbounded
-interval (between +∞ b) = Unbounded
+interval (between (from low) (to high)) = Bounded low high
+interval (between (from low) +∞) = Unbounded
+interval (between −∞ (to high)) = Unbounded
+interval (between −∞ +∞) = Unbounded
 
 unfoldable pub hull_of : Interval → Interval → Interval
 hull_of x y = interval (join (cousot x) (cousot y))
@@ -29,11 +28,11 @@ meet_of x y = interval (meet (cousot x) (cousot y))
 
 -- from low to high, or nothing where they descend
 abbrev pub ascending_of : ℤ → ℤ → Interval
-ascending_of low high = interval (from_to (at low) (at high))
+ascending_of low high = interval (from_to (from low) (to high))
 
 -- `Interval::checked`: from low to high, cut to 32 bits
 unfoldable pub checked_of : ℤ → ℤ → Interval
-checked_of low high = interval (meet (between (at low) (at high)) (between (at least32) (at greatest32)))
+checked_of low high = interval (meet (between (from low) (to high)) (between (from least32) (to greatest32)))
 
 -- `Interval::endpoints`: Unbounded has the two ends of 32 bits
 abbrev pub endpoints_of : Interval → Option (ℤ × ℤ)

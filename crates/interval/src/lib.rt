@@ -4,7 +4,7 @@
 
 ghost use Rattle.std.specs.Prelude.{◌≡◌};
 ghost use Rattle.interval.specs.Interval.{ascending_of, hull_of, meet_of, checked_of, endpoints_of, contains_of};
-ghost use Rattle.interval.specs.Bound.{numeric_of, constant_of, either_of, both_of, hull_bound, meet_bound, allows_of};
+ghost use Rattle.interval.specs.Bound.{numeric_bound, constant_bound, join_integrality, meet_integrality, hull_bound, meet_bound, allows_of};
 
 // Whether every possible value is a number.
 #[derive(Clone, Copy, Debug, PartialEq, Eq)]
@@ -113,9 +113,9 @@ impl Interval {
 }
 
 impl Integrality {
-    // Numbers alone in both.
-    fn either(self, other: Integrality) -> Integrality
-        ensures { result ≡ either_of self other }
+    // The join has numbers alone where both have.
+    fn join(self, other: Integrality) -> Integrality
+        ensures { result ≡ join_integrality self other }
     {
         match (self, other) {
             (Integrality::Integer, Integrality::Integer) => Integrality::Integer,
@@ -123,9 +123,9 @@ impl Integrality {
         }
     }
 
-    // Numbers alone in one of them.
-    fn both(self, other: Integrality) -> Integrality
-        ensures { result ≡ both_of self other }
+    // The meet has numbers alone where one has.
+    fn meet(self, other: Integrality) -> Integrality
+        ensures { result ≡ meet_integrality self other }
     {
         match (self, other) {
             (Integrality::Mixed, Integrality::Mixed) => Integrality::Mixed,
@@ -148,7 +148,7 @@ impl Bound {
 
     // Numbers of an interval. A constructor by name, as 01 has it: a `From` reads no plainer where it is called.
     pub fn numeric(interval: Interval) -> Bound
-        ensures { result ≡ numeric_of interval }
+        ensures { result ≡ numeric_bound interval }
     {
         Bound {
             integrality: Integrality::Integer,
@@ -158,7 +158,7 @@ impl Bound {
 
     // One constant, by name for the same reason.
     pub fn constant(constant: Constant) -> Bound
-        ensures { result ≡ constant_of constant }
+        ensures { result ≡ constant_bound constant }
     {
         match constant {
             Constant::Number(n) => Bound::numeric(Interval::Bounded { low: n, high: n }),
@@ -173,7 +173,7 @@ impl Bound {
         ensures { result ≡ hull_bound self other }
     {
         Bound {
-            integrality: self.integrality.either(other.integrality),
+            integrality: self.integrality.join(other.integrality),
             interval: self.interval.hull(other.interval),
         }
     }
@@ -182,7 +182,7 @@ impl Bound {
         ensures { result ≡ meet_bound self other }
     {
         Bound {
-            integrality: self.integrality.both(other.integrality),
+            integrality: self.integrality.meet(other.integrality),
             interval: self.interval.meet(other.interval),
         }
     }

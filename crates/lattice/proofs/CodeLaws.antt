@@ -17,8 +17,7 @@ use Rattle.limits.proofs.Monad.{bind_stop, bind_on, then_stop, then_on, pure_is,
 use Rattle.interval.specs.declared.Bound.{Bound}
 use Rattle.interval.specs.declared.Constant.{Constant}
 use Rattle.interval.specs.declared.Constant.TheVariants.{Large}
-use Rattle.interval.specs.Bound.{hull_bound, meet_bound, same_bound, allows_of}
-use Rattle.interval.specs.Bound as bounds
+use Rattle.interval.specs.Bound.{constant_bound, hull_bound, meet_bound, same_bound, allows_of}
 use Rattle.lists.specs.Lists.{union, push, retain_all, collect, permits, same_ids}
 use Rattle.lattice.specs.declared.Widening.TheVariants.{SymbolSize, ValueWidth}
 use Rattle.lattice.specs.Value.{Value, value, Reason}
@@ -47,7 +46,7 @@ module _ (id : ℕ) (b : Bound) (width : ℕ) (m : Meter) where
     pub retained_one : {v : Value} {l : List ℕ} → going tt m' ≡ retain 1 m → l ≡ id ∷ [] → v ≡ value b (some l) None → going v m' ≡ retained id b width m
     retained_one h q p = rw (p, q) (yes_on _ _ _ (le-leb 1 width (positive width z)) (then_on _ _ _ h (pure_is _ _)))
 
-pub constant_large : (id width : ℕ) (m : Meter) {c : Constant} {b : Bound} {v : Value} → c ≡ Large → b ≡ bounds.constant_of c → v ≡ value b none (Some SymbolSize) → going v m ≡ constant id c width m
+pub constant_large : (id width : ℕ) (m : Meter) {c : Constant} {b : Bound} {v : Value} → c ≡ Large → b ≡ constant_bound c → v ≡ value b none (Some SymbolSize) → going v m ≡ constant id c width m
 constant_large id width m p q k = rw (k, q, p) (pure_is _ _)
 
 -- ---- a copy

@@ -12,7 +12,7 @@ use Rattle.interval.specs.declared.Interval.{Interval}
 use Rattle.interval.specs.declared.Bound.{Bound}
 use Rattle.interval.specs.declared.Constant.{Constant}
 use Rattle.interval.specs.declared.Constant.TheVariants.{Number, Name, Large}
-use Rattle.interval.specs.Bound.{bottom_of, meet_bound, same_bound, allows_of}
+use Rattle.interval.specs.Bound.{bottom_bound, meet_bound, same_bound, allows_of}
 use Rattle.lists.specs.Lists.{union}
 use Rattle.lists.proofs.LiveLaws.{list_size, push_lives, work_lives, retain_all_lives, collect_lives, permits_lives, same_ids_live}
 use Rattle.lattice.specs.Value.{Reason}
@@ -88,11 +88,11 @@ sift_lives u v b cs kept (i ∷ l) =
 reduce_lives : (b : Bound) (cs kept : List ℕ) → Lives (length kept) (λ _. length kept) (reduce b cs kept)
 unfolding reduce
 reduce_lives b cs kept =
-    live_bind (live_fold (λ h i. live_then (work_lives (length kept) 1) (live_pure (length kept) _ refl)) bottom_of kept)
+    live_bind (live_fold (λ h i. live_then (work_lives (length kept) 1) (live_pure (length kept) _ refl)) bottom_bound kept)
     (λ held. live_pure (length kept) (meet_bound b held) refl)
 
 meet_lists_live : (u v : Value) (b : Bound) (cs : List ℕ) (o : Option (List ℕ)) → Lives 0 size (meet_lists u v b cs o)
-meet_lists_live u v b cs none = live_pure 0 _ (empty (same_bound b bottom_of))
+meet_lists_live u v b cs none = live_pure 0 _ (empty (same_bound b bottom_bound))
   where
     empty : (t : Bool) → 0 ≡ list_size (cond t (some []) none)
     empty true = refl

@@ -15,8 +15,7 @@ use Rattle.limits.specs.Metered.{pure, ◌>>◌, fold_m}
 use Rattle.limits.specs.Meter.{work, holding}
 use Rattle.limits.proofs.Monad.{Ensures, by_pure, by_test, by_through, bind, then, weaken}
 use Rattle.interval.specs.declared.Bound.{Bound}
-use Rattle.interval.specs.Bound.{bottom_of, hull_bound, meet_bound, same_bound, allows_of}
-use Rattle.interval.specs.Bound as bounds
+use Rattle.interval.specs.Bound.{bottom_bound, constant_bound, hull_bound, meet_bound, same_bound, allows_of}
 use Rattle.interval.proofs.Members.{same_bound_is}
 use Rattle.std.specs.Prelude.{None}
 use Rattle.lattice.specs.Value.{Value, value}
@@ -84,25 +83,25 @@ module _ (u v : Value) (p : Sorted u.values) (q : Sorted v.values) where
 
 -- the hull of the bounds of some constants
 abbrev pub held_by : List ℕ → List ℕ → Bound
-held_by cs l = foldl (λ h i. hull_bound h (bounds.constant_of (constant_at cs i))) bottom_of l
+held_by cs l = foldl (λ h i. hull_bound h (constant_bound (constant_at cs i))) bottom_bound l
 
 folds : (cs : List ℕ) (n : ℕ) (h : Bound) (l : List ℕ) →
-    Ensures (λ r. r ≡ foldl (λ h i. hull_bound h (bounds.constant_of (constant_at cs i))) h l) (fold_m (λ h i. holding n (work 1) >> pure (hull_bound h (bounds.constant_of (constant_at cs i)))) h l)
+    Ensures (λ r. r ≡ foldl (λ h i. hull_bound h (constant_bound (constant_at cs i))) h l) (fold_m (λ h i. holding n (work 1) >> pure (hull_bound h (constant_bound (constant_at cs i)))) h l)
 unfolding fold_m
 folds cs n h [] = by_pure h refl
 folds cs n h (i ∷ l) =
-    bind {P = λ g. g ≡ hull_bound h (bounds.constant_of (constant_at cs i))} (then (holding n (work 1)) (by_pure _ refl)) (λ g e. rw e (folds cs n (hull_bound h (bounds.constant_of (constant_at cs i))) l))
+    bind {P = λ g. g ≡ hull_bound h (constant_bound (constant_at cs i))} (then (holding n (work 1)) (by_pure _ refl)) (λ g e. rw e (folds cs n (hull_bound h (constant_bound (constant_at cs i))) l))
 
 pub reduce_is : (b : Bound) (cs kept : List ℕ) → Ensures (λ r. r ≡ meet_bound b (held_by cs kept)) (reduce b cs kept)
 unfolding reduce
-reduce_is b cs kept = bind (folds cs (length kept) bottom_of kept) (λ h e. by_pure (meet_bound b h) (rw e))
+reduce_is b cs kept = bind (folds cs (length kept) bottom_bound kept) (λ h e. by_pure (meet_bound b h) (rw e))
 
 -- ---- the whole answer
 
 -- with no list on either side the list is empty exactly if the bound is, and the reason is the older one; else what stays is the list,
 -- and the bound shrinks to its constants
 abbrev pub met_from : List ℕ → Value → Value → Bound → Option (List ℕ) → Value
-met_from cs u v b none = value b (cond (same_bound b bottom_of) (some []) none) (first_reason u.widening v.widening)
+met_from cs u v b none = value b (cond (same_bound b bottom_bound) (some []) none) (first_reason u.widening v.widening)
 met_from cs u v b (some l) =
     value (meet_bound b (held_by cs (passing (stays cs u.values v.values b) l))) (some (passing (stays cs u.values v.values b) l)) None
 
@@ -123,8 +122,8 @@ meet_is cs u v p q = then (work 1) (lists_meet cs u v (meet_bound u.bound v.boun
 
 pub record Listless (u v w : Value) : Type 0 where
   pub bound : w.bound ≡ meet_bound u.bound v.bound
-  pub empty : meet_bound u.bound v.bound ≡ bottom_of → w.values ≡ some []
-  pub otherwise : (meet_bound u.bound v.bound ≡ bottom_of → ⊥) → w.values ≡ none
+  pub empty : meet_bound u.bound v.bound ≡ bottom_bound → w.values ≡ some []
+  pub otherwise : (meet_bound u.bound v.bound ≡ bottom_bound → ⊥) → w.values ≡ none
   pub reason : w.widening ≡ first_reason u.widening v.widening
 
 listless : (cs : List ℕ) (u v w : Value) → u.values ≡ none → v.values ≡ none → w ≡ met_value cs u v → Listless u v w
@@ -132,8 +131,8 @@ listless cs u v w p q e =
     let f : w ≡ met_from cs u v b none = e ∙ rw (p, q) in
     record {
       bound = rw f;
-      empty = λ z. rw (f, (same_bound_is b bottom_of).1 z);
-      otherwise = λ z. rw (f, no (same_bound b bottom_of) (λ t. z ((same_bound_is b bottom_of).0 t)));
+      empty = λ z. rw (f, (same_bound_is b bottom_bound).1 z);
+      otherwise = λ z. rw (f, no (same_bound b bottom_bound) (λ t. z ((same_bound_is b bottom_bound).0 t)));
       reason = rw f;
     }
   where
@@ -207,11 +206,11 @@ meet_from_list cs u v l p q s = weaken (λ w e. from_list cs u v w l p q s e) (m
 
 module _ (cs : List ℕ) (u v : Value) (p : Sorted u.values) (q : Sorted v.values) where
   met_sorted : (o : Option (List ℕ)) (b : Bound) → Sorted o → Sorted (met_from cs u v b o).values
-  met_sorted none b s = by_cond Sorted (same_bound b bottom_of) (λ _. tt) (λ _. tt)
+  met_sorted none b s = by_cond Sorted (same_bound b bottom_bound) (λ _. tt) (λ _. tt)
   met_sorted (some l) b s = passing_increasing (stays cs u.values v.values b) l s
 
   met_small : (o : Option (List ℕ)) (b : Bound) → Small o → Small (met_from cs u v b o).values
-  met_small none b s = by_cond Small (same_bound b bottom_of) (λ _. omega arith) (λ _. tt)
+  met_small none b s = by_cond Small (same_bound b bottom_bound) (λ _. omega arith) (λ _. tt)
   met_small (some l) b s = omega (arith, passing_length (stays cs u.values v.values b) l)
 
   pub meet_sorted : Ensures (λ w. Sorted w.values) (meet cs u v)

@@ -21,8 +21,7 @@ use Rattle.interval.specs.declared.Constant.{Constant}
 use Rattle.interval.specs.declared.Constant.TheVariants.{Number as number, Name, Large}
 use Rattle.interval.specs.Cousot.{◌∋◌}
 use Rattle.interval.specs.Interval.{cousot}
-use Rattle.interval.specs.Bound.{top_of, bottom_of, numeric_of, hull_bound, meet_bound, same_bound, allows_of, HasNumber, HasNames}
-use Rattle.interval.specs.Bound as bounds
+use Rattle.interval.specs.Bound.{top_bound, bottom_bound, numeric_bound, constant_bound, hull_bound, meet_bound, same_bound, allows_of, HasNumber, HasNames}
 use Rattle.interval.proofs.Members.{hull_number, hull_names, meet_number, meet_names, allows_number, allows_name, constant_number_lem, same_bound_is}
 use Rattle.lattice.specs.Value.{Reason}
 use Rattle.lattice.specs.Value.{Value}
@@ -50,23 +49,23 @@ pub in_meet : (o : Option ℤ) (b c : Bound) → InBound o (meet_bound b c) ↔ 
 in_meet none b c = meet_names b c
 in_meet (some n) b c = meet_number b c n
 
-pub in_bottom : (o : Option ℤ) → InBound o bottom_of → ⊥
+pub in_bottom : (o : Option ℤ) → InBound o bottom_bound → ⊥
 in_bottom none h = h
 in_bottom (some n) h = h
 
 -- the hull of the constants' bounds has what one of them has
-in_held : (cs : List ℕ) (o : Option ℤ) (i : ℕ) (l : List ℕ) → Memᴰ i l → InBound o (bounds.constant_of (constant_at cs i)) → InBound o (held_by cs l)
-in_held cs o i l m h = hit l bottom_of m
+in_held : (cs : List ℕ) (o : Option ℤ) (i : ℕ) (l : List ℕ) → Memᴰ i l → InBound o (constant_bound (constant_at cs i)) → InBound o (held_by cs l)
+in_held cs o i l m h = hit l bottom_bound m
   where
-    keep : (l : List ℕ) (b : Bound) → InBound o b → InBound o (foldl (λ g j. hull_bound g (bounds.constant_of (constant_at cs j))) b l)
+    keep : (l : List ℕ) (b : Bound) → InBound o b → InBound o (foldl (λ g j. hull_bound g (constant_bound (constant_at cs j))) b l)
     keep [] b p = p
-    keep (j ∷ l) b p = keep l _ (in_hull o b (bounds.constant_of (constant_at cs j)) (inl p))
+    keep (j ∷ l) b p = keep l _ (in_hull o b (constant_bound (constant_at cs j)) (inl p))
 
-    hit : (l : List ℕ) (b : Bound) → Memᴰ i l → InBound o (foldl (λ g j. hull_bound g (bounds.constant_of (constant_at cs j))) b l)
+    hit : (l : List ℕ) (b : Bound) → Memᴰ i l → InBound o (foldl (λ g j. hull_bound g (constant_bound (constant_at cs j))) b l)
     hit [] b m = absurd (mathlib.Core.List.Memᴰ.not-nil m)
     hit (j ∷ l) b m =
         ⊎_elim
-        (λ e. keep l _ (in_hull o b (bounds.constant_of (constant_at cs j)) (inr (subst (λ (n : ℕ). InBound o (bounds.constant_of (constant_at cs n))) e h))))
+        (λ e. keep l _ (in_hull o b (constant_bound (constant_at cs j)) (inr (subst (λ (n : ℕ). InBound o (constant_bound (constant_at cs n))) e h))))
         (λ k. hit l _ k) (mathlib.Core.List.Memᴰ.cases_cons m)
 
 -- ---- in a value
@@ -95,7 +94,7 @@ module _ {K : Type 0} (num : K → Option ℤ) (Key : ℕ → K → Type 0) wher
   pub top_in : (reason : Reason) (k : K) → In (top reason) k
   top_in reason k = record { bound = go (num k); list = tt }
     where
-      go : (o : Option ℤ) → InBound o top_of
+      go : (o : Option ℤ) → InBound o top_bound
       go none = tt
       go (some n) = (tt, tt)
 
@@ -112,12 +111,12 @@ module _ {K : Type 0} (num : K → Option ℤ) (Key : ℕ → K → Type 0) wher
   pub numeric_only : (k : K) (i : Interval) → In (numeric i) k → (n : ℤ) × (num k ≡ some n) × (cousot i ∋ n)
   numeric_only k i h = go (num k) refl i (bounded i h)
     where
-      bounded : (i : Interval) → In (numeric i) k → InBound (num k) (numeric_of i)
+      bounded : (i : Interval) → In (numeric i) k → InBound (num k) (numeric_bound i)
       bounded Bottom h = h.bound
       bounded (Bounded low high) h = h.bound
       bounded Unbounded h = h.bound
 
-      go : (o : Option ℤ) → num k ≡ o → (i : Interval) → InBound o (numeric_of i) → (n : ℤ) × (num k ≡ some n) × (cousot i ∋ n)
+      go : (o : Option ℤ) → num k ≡ o → (i : Interval) → InBound o (numeric_bound i) → (n : ℤ) × (num k ≡ some n) × (cousot i ∋ n)
       go none e i h = absurd h
       go (some n) e i h = (n, e, h)
 
@@ -156,10 +155,10 @@ module _ {K : Type 0} (num : K → Option ℤ) (Key : ℕ → K → Type 0) wher
         go none e h = rw (t.names i k m e) ((allows_name b).1 h)
         go (some n) e h = rw (t.numbers i k n m e) ((allows_number b n (t.fits k n e)).1 h)
 
-    own : (i : ℕ) (k : K) → Key i k → InBound (num k) (bounds.constant_of (constant_at cs i))
+    own : (i : ℕ) (k : K) → Key i k → InBound (num k) (constant_bound (constant_at cs i))
     own i k m = go (num k) refl
       where
-        go : (o : Option ℤ) → num k ≡ o → InBound o (bounds.constant_of (constant_at cs i))
+        go : (o : Option ℤ) → num k ≡ o → InBound o (constant_bound (constant_at cs i))
         go none e = rw (t.names i k m e) tt
         go (some n) e = rw (t.numbers i k n m e) ((constant_number_lem n n).1 refl)
 
@@ -183,8 +182,8 @@ module _ {K : Type 0} (num : K → Option ℤ) (Key : ℕ → K → Type 0) wher
           record {
             bound = in_met p q;
             list =
-                by_cond (Listed Key k) (same_bound (meet_bound u.bound v.bound) bottom_of)
-                (λ a. absurd (in_bottom (num k) (subst (InBound (num k)) ((same_bound_is (meet_bound u.bound v.bound) bottom_of).0 a) (in_met p q)))) (λ _. tt);
+                by_cond (Listed Key k) (same_bound (meet_bound u.bound v.bound) bottom_bound)
+                (λ a. absurd (in_bottom (num k) (subst (InBound (num k)) ((same_bound_is (meet_bound u.bound v.bound) bottom_bound).0 a) (in_met p q)))) (λ _. tt);
           })
           (meet_is cs u v su sv)
       meet_to p q (some l) s =
@@ -259,7 +258,7 @@ module _ {K : Type 0} (num : K → Option ℤ) (Key : ℕ → K → Type 0) wher
   pub constant_in : (cs : List ℕ) → Keyed cs → (id width : ℕ) (k : K) → Key id k → Ensures (λ w. In w k) (constant id (constant_at cs id) width)
   constant_in cs t id width k m = go (constant_at cs id) (own cs t id k m)
     where
-      go : (c : Constant) → InBound (num k) (bounds.constant_of c) → Ensures (λ w. In w k) (constant id c width)
+      go : (c : Constant) → InBound (num k) (constant_bound c) → Ensures (λ w. In w k) (constant id c width)
       go (number n) h = retained_in id _ width k m h
       go Name h = retained_in id _ width k m h
       go Large h = by_pure _ record { bound = h; list = tt }

@@ -13,8 +13,7 @@ use Rattle.limits.specs.declared.Meter.{Meter}
 use Rattle.limits.specs.Meter.{work, holding}
 use Rattle.limits.proofs.Monad.{bind_stop, bind_on, then_stop, then_on, pure_is}
 use Rattle.interval.specs.declared.Bound.{Bound}
-use Rattle.interval.specs.Bound.{bottom_of, hull_bound, meet_bound}
-use Rattle.interval.specs.Bound as bounds
+use Rattle.interval.specs.Bound.{bottom_bound, constant_bound, hull_bound, meet_bound}
 use Rattle.lattice.specs.Value.{Value}
 use Rattle.lattice.specs.Constants.{constant_at}
 use Rattle.lattice.specs.Lattice.{keep_one, sift, reduce}
@@ -52,13 +51,13 @@ module _ (u v : Value) (b : Bound) (cs l : List ℕ) (m₀ : Meter) where
 
 module _ (cs kept : List ℕ) where
   abbrev pub hulling : Bound → ℕ → Metered Stop Meter Bound
-  hulling = λ h i. holding (length kept) (work 1) >> pure (hull_bound h (bounds.constant_of (constant_at cs i)))
+  hulling = λ h i. holding (length kept) (work 1) >> pure (hull_bound h (constant_bound (constant_at cs i)))
 
   -- h is the hull of the first i constants, and the hulls begun at m₀ go on from there
   pub record Hulling (m₀ : Meter) (h : Bound) (i : ℕ) (m : Meter) : Type 0 where
-    pub run : fold_m hulling bottom_of kept m₀ ≡ fold_m hulling h (drop i kept) m
+    pub run : fold_m hulling bottom_bound kept m₀ ≡ fold_m hulling h (drop i kept) m
 
-  pub hull_begun : (m : Meter) → Hulling m bottom_of 0 m
+  pub hull_begun : (m : Meter) → Hulling m bottom_bound 0 m
   hull_begun m = record { run = refl }
 
   module _ (b : Bound) (m₀ : Meter) (h : Bound) (i : ℕ) (m : Meter) (c : Hulling m₀ h i m) where
@@ -74,6 +73,6 @@ module _ (cs kept : List ℕ) where
       unfolding reduce fold_m
       hull_stopped p = bind_stop _ _ _ (rw (c.run, drop-cons kept i 0 k) (bind_stop _ _ _ (then_stop _ _ _ p)))
 
-      pub hull_more : {h' : Bound} → going tt m' ≡ holding (length kept) (work 1) m → h' ≡ hull_bound h (bounds.constant_of (constant_at cs (get_or kept i 0))) → Hulling m₀ h' (i + 1) m'
+      pub hull_more : {h' : Bound} → going tt m' ≡ holding (length kept) (work 1) m → h' ≡ hull_bound h (constant_bound (constant_at cs (get_or kept i 0))) → Hulling m₀ h' (i + 1) m'
       unfolding fold_m
       hull_more p q = record { run = c.run ∙ rw (next_id k, q) (sym (bind_on _ _ _ (then_on _ _ _ p (pure_is _ _)) refl)) }

@@ -11,7 +11,7 @@ use Rattle.interval.specs.declared.Interval.{Interval}
 use Rattle.interval.specs.declared.Bound.{Bound}
 use Rattle.interval.specs.declared.Constant.{Constant}
 use Rattle.interval.specs.declared.Constant.TheVariants.{Number, Name, Large}
-use Rattle.interval.specs.Bound.{bottom_of, meet_bound, same_bound, allows_of}
+use Rattle.interval.specs.Bound.{bottom_bound, meet_bound, same_bound, allows_of}
 use Rattle.search.specs.Seek.{found?}
 use Rattle.search.proofs.Complete.{steady_seek}
 use Rattle.lattice.specs.Value.{Reason}
@@ -98,7 +98,7 @@ sift_steady u v b cs kept (i ∷ l) = steady_bind (keep_steady u v b cs (length 
 reduce_steady : (b : Bound) (cs kept : List ℕ) → Steady (reduce b cs kept)
 unfolding reduce
 reduce_steady b cs kept =
-    steady_bind (steady_fold (λ h i. steady_then (steady_unit (holding (length kept) (work 1))) (steady_pure _)) bottom_of kept) (λ held. steady_pure (meet_bound b held))
+    steady_bind (steady_fold (λ h i. steady_then (steady_unit (holding (length kept) (work 1))) (steady_pure _)) bottom_bound kept) (λ held. steady_pure (meet_bound b held))
 
 meet_lists_steady : (u v : Value) (b : Bound) (cs : List ℕ) (o : Option (List ℕ)) → Steady (meet_lists u v b cs o)
 meet_lists_steady u v b cs none = steady_pure _

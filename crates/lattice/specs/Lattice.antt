@@ -10,23 +10,22 @@ use Rattle.interval.specs.declared.Interval.TheVariants.{Bottom, Bounded, Unboun
 use Rattle.interval.specs.declared.Bound.{Bound}
 use Rattle.interval.specs.declared.Constant.{Constant}
 use Rattle.interval.specs.declared.Constant.TheVariants.{Number, Name, Large}
-use Rattle.interval.specs.Bound.{top_of, bottom_of, numeric_of, hull_bound, meet_bound, same_bound, allows_of}
-use Rattle.interval.specs.Bound as bounds
+use Rattle.interval.specs.Bound.{top_bound, bottom_bound, numeric_bound, constant_bound, hull_bound, meet_bound, same_bound, allows_of}
 use Rattle.lattice.specs.declared.Widening.TheVariants.{SymbolSize, ValueWidth}
 use Rattle.lattice.specs.Value.{Value, value, Reason}
 use Rattle.lattice.specs.Constants.{constant_at}
 use Rattle.lists.specs.Lists.{union, push, retain_all, collect, permits, same_ids}
 
 abbrev pub bottom : Value
-bottom = value bottom_of (some []) None
+bottom = value bottom_bound (some []) None
 
 abbrev pub top : Reason → Value
-top reason = value top_of none reason
+top reason = value top_bound none reason
 
 abbrev pub numeric : Interval → Value
 numeric Bottom = bottom
-numeric (Bounded low high) = value (numeric_of (Bounded low high)) none None
-numeric Unbounded = value (numeric_of Unbounded) none None
+numeric (Bounded low high) = value (numeric_bound (Bounded low high)) none None
+numeric Unbounded = value (numeric_bound Unbounded) none None
 
 -- a constant that is retained has a list where the width admits one
 abbrev pub retained : ℕ → Bound → ℕ → Metered Stop Meter Value
@@ -34,9 +33,9 @@ retained id b width = cond (leb 1 width) (retain 1 >> pure (value b (some (id �
 
 -- 01: "An unretained constant has no list, reason SymbolSize; a retained one at width 0 none, reason ValueWidth."
 abbrev pub constant : ℕ → Constant → ℕ → Metered Stop Meter Value
-constant id (Number n) width = retained id (bounds.constant_of (Number n)) width
-constant id Name width = retained id (bounds.constant_of Name) width
-constant id Large width = pure (value (bounds.constant_of Large) none (Some SymbolSize))
+constant id (Number n) width = retained id (constant_bound (Number n)) width
+constant id Name width = retained id (constant_bound Name) width
+constant id Large width = pure (value (constant_bound Large) none (Some SymbolSize))
 
 abbrev pub copied_list : Option (List ℕ) → Metered Stop Meter (Unit {0})
 copied_list none = pure tt
@@ -100,7 +99,7 @@ sift u v b constants kept (i ∷ l) = do
 -- `Abstract::reduce`: the bound shrinks to what the list holds
 unfoldable pub reduce : Bound → List ℕ → List ℕ → Metered Stop Meter Bound
 reduce b constants kept = do
-  held ← fold_m (λ h i. holding (length kept) (work 1) >> pure (hull_bound h (bounds.constant_of (constant_at constants i)))) bottom_of kept
+  held ← fold_m (λ h i. holding (length kept) (work 1) >> pure (hull_bound h (constant_bound (constant_at constants i)))) bottom_bound kept
   pure (meet_bound b held)
 
 -- the list that a meet goes through: the shorter one, the left one of two of one length
@@ -111,7 +110,7 @@ source (some x) (some y) = some (cond (leb (length x) (length y)) x y)
 
 -- a meet where neither value has a list: none, or the empty one where nothing is left
 abbrev pub bare_meet : Value → Value → Bound → Value
-bare_meet u v b = value b (cond (same_bound b bottom_of) (some []) none) (first_reason u.widening v.widening)
+bare_meet u v b = value b (cond (same_bound b bottom_bound) (some []) none) (first_reason u.widening v.widening)
 
 abbrev pub meet_lists : Value → Value → Bound → List ℕ → Option (List ℕ) → Metered Stop Meter Value
 meet_lists u v b constants none = pure (bare_meet u v b)

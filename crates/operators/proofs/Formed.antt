@@ -2,7 +2,7 @@
 use Rattle.integers.specs.Order.{least32, greatest32}
 use Rattle.std.specs.Prelude.{Option, Some, None}
 use Rattle.range.specs.declared.Range.{Range}
-use Rattle.range.proofs.Enclosing.{IsProper, checked_proper}
+use Rattle.range.proofs.Enclosing.{IsProper, new_proper}
 use Rattle.interval.specs.declared.Interval.{Interval}
 use Rattle.interval.specs.declared.Interval.TheVariants.{Bottom, Bounded, Unbounded}
 use Rattle.rows.specs.WellFormed.{Proper}
@@ -18,7 +18,7 @@ ranged_proper (Some a) p = (p.low, (p.high, p.ascends))
 ranged_proper None p = tt
 
 negated_proper : (r : Option Range) → IsProper (negated r)
-negated_proper (Some a) = checked_proper _ _
+negated_proper (Some a) = new_proper _ _
 negated_proper None = tt
 
 pub unary_proper : (op : UnaryOp) (x : Interval) → Proper (unary_of op x)
@@ -34,9 +34,9 @@ absolute_proper (Bounded low high) = tt
 absolute_proper Unbounded = tt
 
 operated_proper : (op : BinaryOp) (a b : Option Range) → IsProper (operated op a b)
-operated_proper Add (Some a) (Some b) = checked_proper _ _
-operated_proper Sub (Some a) (Some b) = checked_proper _ _
-operated_proper Mul (Some a) (Some b) = checked_proper _ _
+operated_proper Add (Some a) (Some b) = new_proper _ _
+operated_proper Sub (Some a) (Some b) = new_proper _ _
+operated_proper Mul (Some a) (Some b) = new_proper _ _
 operated_proper Div (Some a) (Some b) = tt
 operated_proper Mod (Some a) (Some b) = tt
 operated_proper Pow (Some a) (Some b) = tt

@@ -1,11 +1,10 @@
 -- Operators on intervals, as `expression` of transfer.rs applies them. 01: "Sums, differences, products and negation follow range.rs".
 use Rattle.std.specs.Prelude.{Bool, true, false, ℤ, Option, Some, None}
 use Rattle.range.specs.declared.Range.{Range}
-use Rattle.range.specs.Range.{checked_of, sum_of, difference_of, product_of, negation_of}
+use Rattle.range.specs.Range.{new_of, sum_of, difference_of, product_of, negation_of}
 use Rattle.interval.specs.declared.Interval.{Interval}
 use Rattle.interval.specs.declared.Interval.TheVariants.{Bottom, Bounded, Unbounded}
-use Rattle.interval.specs.Interval.{endpoints_of}
-use Rattle.interval.specs.Interval as intervals
+use Rattle.interval.specs.Interval.{endpoints_of, checked_of}
 use Rattle.nodes.specs.declared.UnaryOp.{UnaryOp}
 use Rattle.nodes.specs.declared.UnaryOp.TheVariants.{Negate, BitwiseNot}
 use Rattle.nodes.specs.declared.BinaryOp.{BinaryOp}
@@ -21,7 +20,7 @@ empty? Unbounded = false
 -- `range`: Unbounded has no range
 abbrev pub range_of : Interval → Option Range
 range_of Bottom = None
-range_of (Bounded low high) = checked_of low high
+range_of (Bounded low high) = new_of low high
 range_of Unbounded = None
 
 -- `interval`, and Unbounded where a range declines
@@ -87,7 +86,7 @@ difference? BitXor = false
 abbrev pub spanned : Option (ℤ × ℤ) → Option (ℤ × ℤ) → Interval
 spanned None y = Bottom
 spanned (Some (a, b)) None = Bottom
-spanned (Some (a, b)) (Some (c, d)) = intervals.checked_of a d
+spanned (Some (a, b)) (Some (c, d)) = checked_of a d
 
 abbrev pub span : Interval → Interval → Interval
 span low high = spanned (endpoints_of low) (endpoints_of high)

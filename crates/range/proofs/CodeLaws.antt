@@ -12,7 +12,7 @@ use Rattle.integers.specs.Order.{number?}
 use Rattle.integers.proofs.Tests.{and_false}
 use Rattle.integers.proofs.OrderLaws.{lt_yes, lt_no, yes_le, no_le, number_yes, yes_number}
 use Rattle.integers.proofs.Bits.{number_fits, fits_number}
-use Rattle.range.specs.Range.{checked_of}
+use Rattle.range.specs.Range.{new_of}
 
 -- ---- whether a number fits 32 bits
 
@@ -32,19 +32,19 @@ module _ {E : Type 0} (z : ℤ) where
 -- ---- the ways out of `checked`
 
 module _ (low high : ℤ) where
-  pub descends : lt_z high low ≡ true → None ≡ checked_of low high
-  unfolding checked_of
+  pub descends : lt_z high low ≡ true → None ≡ new_of low high
+  unfolding new_of
   descends e = rw (no_le low high (lt_yes high low e))
 
-  pub low_out : number? low ≡ false → None ≡ checked_of low high
-  unfolding checked_of
+  pub low_out : number? low ≡ false → None ≡ new_of low high
+  unfolding new_of
   low_out e = rw (e, and_false (le_z low high))
 
-  pub high_out : number? high ≡ false → None ≡ checked_of low high
-  unfolding checked_of
+  pub high_out : number? high ≡ false → None ≡ new_of low high
+  unfolding new_of
   high_out e = rw (e, and_false (number? low), and_false (le_z low high))
 
   pub within : {a b : ℤ} → lt_z high low ≡ false → (number? low ≡ true) × (a ≡ low) → (number? high ≡ true) × (b ≡ high) →
-      Some (record { low = a; high = b }) ≡ checked_of low high
-  unfolding checked_of
+      Some (record { low = a; high = b }) ≡ new_of low high
+  unfolding new_of
   within e l h = rw (l.1, h.1, yes_le low high (lt_no high low e), l.0, h.0)

@@ -3,7 +3,7 @@
 #![tactic(auto)]
 
 ghost use Rattle.std.specs.Prelude.{◌≡◌};
-ghost use Rattle.range.specs.Range.{checked_of, point_of, bounds_of, sum_of, difference_of, corners_of, product_of, negation_of};
+ghost use Rattle.range.specs.Range.{new_of, bounds_of, sum_of, difference_of, corners_of, product_of, negation_of};
 
 // A nonempty interval of 32-bit numbers, both ends included.
 #[derive(Clone, Copy, Debug, PartialEq, Eq)]
@@ -14,7 +14,7 @@ pub struct Range {
 
 // The range with these ends, where they ascend and both fit 32 bits.
 fn checked(low: i64, high: i64) -> Option<Range>
-    ensures { result ≡ checked_of low high }
+    ensures { result ≡ new_of low high }
 {
     if high < low {
         return None;
@@ -40,18 +40,9 @@ fn corners(low: i32, high: i32, right_low: i32, right_high: i32) -> Option<Range
 
 impl Range {
     pub fn new(low: i32, high: i32) -> Option<Range>
-        ensures { result ≡ checked_of low high }
+        ensures { result ≡ new_of low high }
     {
         checked(i64::from(low), i64::from(high))
-    }
-
-    pub fn point(value: i32) -> Range
-        ensures { result ≡ point_of value }
-    {
-        Range {
-            low: value,
-            high: value,
-        }
     }
 
     // The two ends.

@@ -23,7 +23,7 @@ use Rattle.limits.proofs.CodeLaws.{drop_on, drop_stop}
 use Rattle.interval.specs.declared.Interval.{Interval}
 use Rattle.interval.specs.declared.Interval.TheVariants.{Bottom, Bounded, Unbounded}
 use Rattle.interval.specs.Interval.{meet_of}
-use Rattle.interval.specs.Bound.{bottom_of, numeric_of, meet_bound, same_bound}
+use Rattle.interval.specs.Bound.{bottom_bound, numeric_bound, meet_bound, same_bound}
 use Rattle.cells.specs.Cells.{of_cell}
 use Rattle.std.specs.Prelude.{None}
 use Rattle.std.proofs.Common.{Result, Ok, Err}
@@ -180,7 +180,7 @@ module _ (constants : List ℕ) (g : ℕ → Refinement) (id : ℕ) (v : Value) 
 
 -- ---- a numeric value
 
-plain : (x : Interval) → value (numeric_of x) (cond (same_bound (numeric_of x) bottom_of) (some []) none) None ≡ numeric x
+plain : (x : Interval) → value (numeric_bound x) (cond (same_bound (numeric_bound x) bottom_bound) (some []) none) None ≡ numeric x
 plain Bottom = refl
 plain (Bounded low high) = refl
 plain Unbounded = refl

@@ -25,8 +25,7 @@ use Rattle.interval.specs.declared.Constant.{Constant}
 use Rattle.interval.specs.declared.Constant.TheVariants.{Number as number, Name, Large}
 use Rattle.interval.specs.Cousot as cousot
 use Rattle.interval.specs.Interval.{interval, hull_of, meet_of, checked_of}
-use Rattle.interval.specs.Bound.{bottom_of, hull_bound, same_bound}
-use Rattle.interval.specs.Bound as bounds
+use Rattle.interval.specs.Bound.{bottom_bound, constant_bound, hull_bound, same_bound}
 use Rattle.cells.specs.Cells.{of_cell}
 use Rattle.cells.proofs.CellLaws.{of_number}
 use Rattle.lattice.specs.Value.{Reason}
@@ -68,7 +67,7 @@ proper_meet Unbounded Unbounded p q = tt
 pub proper_checked : (low high : ℤ) → Proper (checked_of low high)
 unfolding checked_of
 proper_checked low high =
-    by_le (λ b. Proper (interval (cond b (cousot.between (cousot.at (max_z low least32)) (cousot.at (min_z high greatest32))) cousot.empty))) (max_z low least32) (min_z high greatest32)
+    by_le (λ b. Proper (interval (cond b (cousot.between (cousot.from (max_z low least32)) (cousot.to (min_z high greatest32))) cousot.empty))) (max_z low least32) (min_z high greatest32)
     (λ h. ((max_right low least32, omega (arith, min_right high greatest32)), ((omega (arith, max_right low least32), min_right high greatest32), h)))
     (λ _. tt)
 
@@ -102,10 +101,10 @@ number_fits constants id h n e = go (get_or constants (2 * id) 0) (get_or consta
       ]
     ]
 
-pub constant_proper : (cs : List ℕ) → All (λ n. n < 2 ^ 32) cs → (id : ℕ) → Proper (bounds.constant_of (constant_at cs id)).interval
+pub constant_proper : (cs : List ℕ) → All (λ n. n < 2 ^ 32) cs → (id : ℕ) → Proper (constant_bound (constant_at cs id)).interval
 constant_proper cs small id = go (constant_at cs id) (number_fits cs id (all_get_d (λ n. n < 2 ^ 32) cs (2 * id + 1) 0 small (omega arith)))
   where
-    go : (c : Constant) → ((n : ℤ) → c ≡ number n → Number n) → Proper (bounds.constant_of c).interval
+    go : (c : Constant) → ((n : ℤ) → c ≡ number n → Number n) → Proper (constant_bound c).interval
     go (number n) f = (f n refl, (f n refl, omega arith))
     go Name f = tt
     go Large f = tt
@@ -117,7 +116,7 @@ retained_formed id b width h p =
 pub constant_formed : (cs : List ℕ) → All (λ n. n < 2 ^ 32) cs → (id width : ℕ) → id < 2 ^ 16 → Ensures WellFormed (constant id (constant_at cs id) width)
 constant_formed cs small id width h = go (constant_at cs id) (constant_proper cs small id)
   where
-    go : (c : Constant) → Proper (bounds.constant_of c).interval → Ensures WellFormed (constant id c width)
+    go : (c : Constant) → Proper (constant_bound c).interval → Ensures WellFormed (constant id c width)
     go (number n) p = retained_formed id _ width h p
     go Name p = retained_formed id _ width h p
     go Large p = by_pure _ record { interval = tt; list = tt }
@@ -137,12 +136,12 @@ source_short (some x) none p q = p
 source_short (some x) (some y) p q = by_cond (λ l. Short (some l)) (leb (length x) (length y)) (λ _. p) (λ _. q)
 
 module _ (cs : List ℕ) (small : All (λ n. n < 2 ^ 32) cs) where
-  held_proper : (h : Bound) (l : List ℕ) → Proper h.interval → Proper (foldl (λ h i. hull_bound h (bounds.constant_of (constant_at cs i))) h l).interval
+  held_proper : (h : Bound) (l : List ℕ) → Proper h.interval → Proper (foldl (λ h i. hull_bound h (constant_bound (constant_at cs i))) h l).interval
   held_proper h [] p = p
-  held_proper h (i ∷ l) p = held_proper (hull_bound h (bounds.constant_of (constant_at cs i))) l (proper_hull h.interval _ p (constant_proper cs small i))
+  held_proper h (i ∷ l) p = held_proper (hull_bound h (constant_bound (constant_at cs i))) l (proper_hull h.interval _ p (constant_proper cs small i))
 
   reduce_proper : (b : Bound) (kept : List ℕ) → Proper b.interval → Ensures (λ r. Proper r.interval) (reduce b cs kept)
-  reduce_proper b kept p = weaken (λ r e. rw e (proper_meet b.interval (held_by cs kept).interval p (held_proper bottom_of kept tt))) (reduce_is b cs kept)
+  reduce_proper b kept p = weaken (λ r e. rw e (proper_meet b.interval (held_by cs kept).interval p (held_proper bottom_bound kept tt))) (reduce_is b cs kept)
 
   module _ (u v : Value) where
     -- what is kept is some of both
@@ -157,7 +156,7 @@ module _ (cs : List ℕ) (small : All (λ n. n < 2 ^ 32) cs) where
         go false f = weaken (λ r h. (h.0, omega (arith, h.1))) (f kept p)
 
     lists_formed : (b : Bound) (o : Option (List ℕ)) → Proper b.interval → Short o → Ensures WellFormed (meet_lists u v b cs o)
-    lists_formed b none p s = by_pure _ record { interval = p; list = by_cond Short (same_bound b bottom_of) (λ _. (omega arith, tt)) (λ _. tt) }
+    lists_formed b none p s = by_pure _ record { interval = p; list = by_cond Short (same_bound b bottom_bound) (λ _. (omega arith, tt)) (λ _. tt) }
     lists_formed b (some l) p s =
         bind (sift_some (λ n. n < 2 ^ 16) b [] l tt s.1)
         (λ kept h. bind (reduce_proper b kept p) (λ r q. by_pure _ record { interval = q; list = (omega (arith, h.1, s.0), h.0) }))

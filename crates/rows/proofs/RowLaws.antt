@@ -75,7 +75,7 @@ numeric_none Unbounded = refl
 
 pub ascending_proper : (low high : ℤ) → Number low → Number high → Proper (ascending_of low high)
 ascending_proper low high l h =
-    by_le (λ b. Proper (intervals.interval (cond b (cousot.between (cousot.at low) (cousot.at high)) cousot.empty))) low high (λ a. (l, (h, a))) (λ _. tt)
+    by_le (λ b. Proper (intervals.interval (cond b (cousot.between (cousot.from low) (cousot.to high)) cousot.empty))) low high (λ a. (l, (h, a))) (λ _. tt)
 
 pub interval_proper : (n : ℕ) (low high : ℤ) → Number low → Number high → Proper (interval_of n low high)
 interval_proper zero low high l h = tt

@@ -22,7 +22,7 @@ use Rattle.interval.specs.declared.Interval.TheVariants.{Bounded}
 use Rattle.interval.specs.declared.Bound.{Bound}
 use Rattle.interval.specs.declared.Constant.{Constant}
 use Rattle.interval.specs.declared.Constant.TheVariants.{Number as number, Name, Large}
-use Rattle.interval.specs.Bound as bounds
+use Rattle.interval.specs.Bound.{constant_bound}
 use Rattle.lists.specs.Lists.{union}
 use Rattle.lists.proofs.ListLaws.{Sorted, room}
 use Rattle.lists.proofs.Unions.{union_increasing}
@@ -228,16 +228,16 @@ abbrev pub listed : ℕ → Bound → ℕ → Value
 listed id b width = cond (leb 1 width) (value b (some (id ∷ [])) None) (value b none (Some ValueWidth))
 
 abbrev pub constant_seed : ℕ → Constant → ℕ → Value
-constant_seed id (number n) width = listed id (bounds.constant_of (number n)) width
-constant_seed id Name width = listed id (bounds.constant_of Name) width
-constant_seed id Large width = value (bounds.constant_of Large) none (Some SymbolSize)
+constant_seed id (number n) width = listed id (constant_bound (number n)) width
+constant_seed id Name width = listed id (constant_bound Name) width
+constant_seed id Large width = value (constant_bound Large) none (Some SymbolSize)
 
 listed_is : (id : ℕ) (b : Bound) (width : ℕ) → Ensures (λ v. v ≡ listed id b width) (retained id b width)
 listed_is id b width = by_test (leb 1 width) (λ e. then (retain 1) (by_pure _ (rw e))) (λ e. by_pure _ (rw e))
 
 pub constant_is : (id : ℕ) (c : Constant) (width : ℕ) → Ensures (λ v. v ≡ constant_seed id c width) (constant id c width)
-constant_is id (number n) width = listed_is id (bounds.constant_of (number n)) width
-constant_is id Name width = listed_is id (bounds.constant_of Name) width
+constant_is id (number n) width = listed_is id (constant_bound (number n)) width
+constant_is id Name width = listed_is id (constant_bound Name) width
 constant_is id Large width = by_pure _ refl
 
 -- ---- a join of two

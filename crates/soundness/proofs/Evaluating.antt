@@ -20,7 +20,7 @@ use Rattle.limits.proofs.Monad.{Ensures, by_pure, by_test, bind, then, weaken, b
 use Rattle.std.specs.Prelude as std
 use Rattle.range.specs.declared.Range.{Range}
 use Rattle.range.specs.Range.{Encloses}
-use Rattle.range.proofs.Enclosing.{checked_encloses, sum_encloses, difference_encloses, product_encloses, negation_encloses}
+use Rattle.range.proofs.Enclosing.{new_encloses, sum_encloses, difference_encloses, product_encloses, negation_encloses}
 use Rattle.interval.specs.declared.Integrality.{Integrality}
 use Rattle.interval.specs.declared.Integrality.TheVariants.{Integer, Mixed}
 use Rattle.interval.specs.declared.Interval.{Interval}
@@ -64,7 +64,7 @@ use Rattle.soundness.proofs.Worth.{Scene, ProperChoice, proper_into, Worth, Cove
 
 within : (x : Interval) (n : ℤ) → cousot x ∋ n → Encloses (range_of x) n
 within Bottom n h = absurd h
-within (Bounded low high) n h = checked_encloses low high n h
+within (Bounded low high) n h = new_encloses low high n h
 within Unbounded n h = tt
 
 encloses_in : (r : std.Option Range) (z : ℤ) → Encloses r z → cousot (interval_from r) ∋ z

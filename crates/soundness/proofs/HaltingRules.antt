@@ -24,7 +24,7 @@ use Rattle.interval.specs.declared.Interval.{Interval}
 use Rattle.interval.specs.declared.Bound.{Bound}
 use Rattle.interval.specs.declared.Constant.{Constant}
 use Rattle.interval.specs.declared.Constant.TheVariants.{Number, Name, Large}
-use Rattle.interval.specs.Bound.{bottom_of, same_bound, allows_of}
+use Rattle.interval.specs.Bound.{bottom_bound, same_bound, allows_of}
 use Rattle.std.specs.declared.cmp.Ordering.{Ordering}
 use Rattle.std.specs.declared.cmp.Ordering.TheVariants.{Less, Equal, Greater}
 use Rattle.search.specs.Seek.{Place, by, middle, seek}
@@ -244,7 +244,7 @@ sift_halts u v b cs kept (i ∷ l) = halts_bind (keep_halts u v b cs (length kep
 
 reduce_halts : (b : Bound) (cs kept : List ℕ) → Frugal (reduce b cs kept)
 unfolding reduce
-reduce_halts b cs kept = halts_bind (halts_fold (λ h i. halts_then (halts_through _ _ _ (works 1)) (halts_pure _)) bottom_of kept) (λ held. halts_pure _)
+reduce_halts b cs kept = halts_bind (halts_fold (λ h i. halts_then (halts_through _ _ _ (works 1)) (halts_pure _)) bottom_bound kept) (λ held. halts_pure _)
 
 meet_lists_lem : (u v : Value) (b : Bound) (cs : List ℕ) (o : Option (List ℕ)) → Frugal (meet_lists u v b cs o)
 meet_lists_lem u v b cs none = halts_pure _

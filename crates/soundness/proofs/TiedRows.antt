@@ -25,7 +25,7 @@ use Rattle.interval.specs.declared.Bound.{Bound}
 use Rattle.interval.specs.declared.Constant.{Constant}
 use Rattle.interval.specs.declared.Constant.TheVariants.{Number as number, Name, Large}
 use Rattle.interval.specs.declared.Interval.TheVariants.{Bounded}
-use Rattle.interval.specs.Bound as bounds
+use Rattle.interval.specs.Bound.{constant_bound}
 use Rattle.interval.proofs.Members.{constant_number_lem}
 use Rattle.lists.specs.Lists.{union}
 use Rattle.lists.proofs.ListLaws.{room}
@@ -183,10 +183,10 @@ module _ (key : ℕ → Option Key) (cells : List ℕ) where
 
   -- the value of a constant has its key
   module _ (c : Constants key cells) (i width : ℕ) (k : Key) (e : key i ≡ some k) where
-    own_bound : InBound (number_of k) (bounds.constant_of (constant_at cells i))
+    own_bound : InBound (number_of k) (constant_bound (constant_at cells i))
     own_bound = go k e
       where
-        go : (k : Key) → key i ≡ some k → InBound (number_of k) (bounds.constant_of (constant_at cells i))
+        go : (k : Key) → key i ≡ some k → InBound (number_of k) (constant_bound (constant_at cells i))
         go (keys.number z) f = rw (c.numbers i z f) ((constant_number_lem z z).1 refl)
         go (name s) f = ⊎_elim (λ a. rw a tt) (λ a. rw a tt) (c.names i s f)
 
@@ -196,7 +196,7 @@ module _ (key : ℕ → Option Key) (cells : List ℕ) where
     seed_lies : Lies key cells (constant_seed i (constant_at cells i) width) k
     seed_lies = go (constant_at cells i) refl own_bound
       where
-        go : (d : Constant) → constant_at cells i ≡ d → InBound (number_of k) (bounds.constant_of d) → Lies key cells (constant_seed i d width) k
+        go : (d : Constant) → constant_at cells i ≡ d → InBound (number_of k) (constant_bound d) → Lies key cells (constant_seed i d width) k
         go (number z) f h = listed_lies _ h (λ g. let w : number z ≡ Large = sym f ∙ g in let y : ◌≡◌ {A = ℕ} 0 1 = cc in omega arith)
         go Name f h = listed_lies _ h (λ g. let w : Name ≡ Large = sym f ∙ g in let y : ◌≡◌ {A = ℕ} 0 1 = cc in omega arith)
         go Large f h = record { bound = h; list = tt }
