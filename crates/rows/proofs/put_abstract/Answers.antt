@@ -3,4 +3,4 @@ use Rattle.rows.proofs.CodeLaws.{row_put, kept_is}
 use Rattle.rows.proofs.put_abstract.Goals as goal
 
 pub returns : goal.returns
-returns c = row_put c.args.cells.now c.args.row c.start-at.result c.start-at.ensures c.args.value (kept_is c.args.value c.from.ensures) c.listed_ids-ids.ensures.list c.reason_number.ensures c.put_bound.ensures c.put_cell.ensures c.put_cell-2.ensures c.put_cell-3.ensures c.put_ids.ensures
+returns c = row_put c.args.cells.now c.args.row c.start-at.result c.start-at.ensures c.args.value (kept_is c.args.value c.from.ensures) c.listed_ids-ids.ensures.list c.reason_number-reason.ensures c.put_bound.ensures c.put_cell.ensures c.put_cell-2.ensures c.put_cell-3.ensures c.put_ids.ensures
