@@ -22,7 +22,7 @@ use Rattle.store.specs.declared.Phase.TheVariants.{Stopped}
 use Rattle.store.specs.declared.Counts.{Counts}
 use Rattle.store.specs.declared.Store.{Store}
 use Rattle.store.specs.Store.{admits}
-use Rattle.rounds.specs.Round.{blank}
+use Rattle.rounds.specs.Round.{Given, blank}
 use Rattle.engine.specs.Run.{Beginning, beginning, begin, Progress, progress, finish}
 use Rattle.engine.specs.Call.{Read, Tables, tables, sized, results_sized, spacious, given_of, ended_in, concluded, finished, ran_on, run_call}
 use Rattle.engine.proofs.Kept.{begin_grown}
@@ -41,36 +41,36 @@ module _ (from : List ℕ) {count i : ℕ} where
 
 -- ---- the run of a store that admits it
 
-module _ (r : Read) (s : Store) (before : List ℤ) (arguments slots : List ℕ) (b : Budget) (n : ℕ) (marks : List ℤ) (current growth : List ℕ) where
+module _ (g : Given) (s : Store) (before : List ℤ) (arguments slots : List ℕ) (b : Budget) (n : ℕ) (marks : List ℤ) (current growth : List ℕ) where
   abbrev from : Beginning
   from = beginning (entry s.budget s.counts.thresholds before) blank (replicate size.growth_cells 0)
 
   abbrev to : Beginning
   to = beginning (entry b n marks) current growth
 
-  pub open_stopped : {e : Stop} {result : Store} → stopped e to ≡ begin r.seeds s.counts.positions from → result ≡ ended_in (Stopped e s.context) b n s →
-      tables result marks arguments slots ≡ ran_on r (tables s before arguments slots)
+  pub open_stopped : {e : Stop} {result : Store} → stopped e to ≡ begin g.seeds g.positions from → result ≡ ended_in (Stopped e s.context) b n s →
+      tables result marks arguments slots ≡ ran_on g (tables s before arguments slots)
   unfolding ran_on
-  open_stopped h e = rw e (ap (finished r (tables s before arguments slots)) h)
+  open_stopped h e = rw e (ap (finished g (tables s before arguments slots)) h)
 
-  module _ (begins : going tt to ≡ begin r.seeds s.counts.positions from) where
+  module _ (begins : going tt to ≡ begin g.seeds g.positions from) where
     -- the thresholds stand inside their table
     pub open_marks : s.counts.thresholds + 2 ≤ length before → length marks ≡ length before → n ≤ length marks
-    open_marks a l = omega (arith, begin_grown r.seeds s.counts.positions from begins)
+    open_marks a l = omega (arith, begin_grown g.seeds g.positions from begins)
 
     pub open_taken : s.counts.thresholds + 2 ≤ length before → length marks ≡ length before → n ≡ length (take n marks)
     open_taken a l = sym (length-take-le n marks (open_marks a l))
 
-    pub open_run : {y : Run Stop Progress (Unit {0})} {t : Tables} → y ≡ finish (given_of r s) (take n marks) (progress b s.context current growth (replicate size.bounds_cells 0)) →
-        t ≡ concluded r.seeds n marks (tables s before arguments slots) y → t ≡ ran_on r (tables s before arguments slots)
+    pub open_run : {y : Run Stop Progress (Unit {0})} {t : Tables} → y ≡ finish g (take n marks) (progress b s.context current growth (replicate size.bounds_cells 0)) →
+        t ≡ concluded g.seeds n marks (tables s before arguments slots) y → t ≡ ran_on g (tables s before arguments slots)
     unfolding ran_on
-    open_run f c = c ∙ ap (concluded r.seeds n marks (tables s before arguments slots)) f ∙ ap (finished r (tables s before arguments slots)) begins
+    open_run f c = c ∙ ap (concluded g.seeds n marks (tables s before arguments slots)) f ∙ ap (finished g (tables s before arguments slots)) begins
 
 -- ---- the call
 
 module _ (r : Read) (s : Store) (marks : List ℤ) (arguments slots : List ℕ) {x y z f : Bool} where
   pub run_on : {t : Tables} → x ≡ sized (length r.nodes) (length r.constants) (length r.rules) (length r.seeds) (length marks) → x ≡ true → y ≡ results_sized (length arguments) (length slots) → y ≡ true →
-      z ≡ admits s.phase → z ≡ true → f ≡ spacious s.counts → f ≡ true → t ≡ ran_on r (tables s marks arguments slots) → going tt t ≡ run_call r (tables s marks arguments slots)
+      z ≡ admits s.phase → z ≡ true → f ≡ spacious s.counts → f ≡ true → t ≡ ran_on (given_of r s) (tables s marks arguments slots) → going tt t ≡ run_call r (tables s marks arguments slots)
   unfolding run_call
   run_on p a q b i c j e k = rw (← p, a, ← q, b, ← i, c, ← j, e, k)
 

@@ -74,20 +74,20 @@ concluded seeds n marks t (stopped e s) =
     tables (ended_in (Stopped e s.context) (released (total s.current t.header.counts.positions) s.budget) n t.header) marks t.arguments t.slots
 
 -- with a table of bounds of its own
-abbrev pub finished : Read → Tables → Run Stop Beginning (Unit {0}) → Tables
-finished r t (going tt s) =
-    concluded r.seeds s.entry.count s.entry.table t
-    (finish (given_of r t.header) (take s.entry.count s.entry.table) (progress s.entry.budget t.header.context s.current s.growth (replicate size.bounds_cells 0)))
-finished r t (stopped e s) = tables (ended_in (Stopped e t.header.context) s.entry.budget s.entry.count t.header) s.entry.table t.arguments t.slots
+abbrev pub finished : Given → Tables → Run Stop Beginning (Unit {0}) → Tables
+finished g t (going tt s) =
+    concluded g.seeds s.entry.count s.entry.table t
+    (finish g (take s.entry.count s.entry.table) (progress s.entry.budget t.header.context s.current s.growth (replicate size.bounds_cells 0)))
+finished g t (stopped e s) = tables (ended_in (Stopped e t.header.context) s.entry.budget s.entry.count t.header) s.entry.table t.arguments t.slots
 
 -- with current values and growth of its own
-unfoldable pub ran_on : Read → Tables → Tables
-ran_on r t =
-    finished r t (begin r.seeds t.header.counts.positions (beginning (entry t.header.budget t.header.counts.thresholds t.thresholds) blank (replicate size.growth_cells 0)))
+unfoldable pub ran_on : Given → Tables → Tables
+ran_on g t =
+    finished g t (begin g.seeds g.positions (beginning (entry t.header.budget t.header.counts.thresholds t.thresholds) blank (replicate size.growth_cells 0)))
 
 unfoldable pub run_call : Read → Metered Told Tables (Unit {0})
 run_call r =
     unless (λ t. sized (length r.nodes) (length r.constants) (length r.rules) (length r.seeds) (length t.thresholds) && results_sized (length t.arguments) (length t.slots)) Shape
     (unless (λ t. open? t.header) Closed
     (unless (λ t. spacious t.header.counts) Full
-    (λ t. going tt (ran_on r t))))
+    (λ t. going tt (ran_on (given_of r t.header) t))))

@@ -11,6 +11,7 @@ ghost use Rattle.limits.specs.Refusal.{replied};
 ghost use Rattle.rows.specs.Row.{padded};
 ghost use Rattle.thresholds.specs.Thresholds.{entry};
 ghost use Rattle.rounds.specs.Lent.{given_in};
+ghost use Rattle.rounds.specs.Round.{course};
 ghost use Rattle.engine.specs.Run.{enter_ends, start, seeded, beginning, begin, progress, ascend_and_end, finish};
 ghost use Rattle.engine.specs.Call.{read, tables, sized, results_sized, spacious, given_of, ended_in, concluded, ran_on, run_call};
 
@@ -48,7 +49,7 @@ fn seed(
 }
 
 // What a run begins with: the ends are thresholds, and the seeds are the current values. The count is that of the thresholds.
-pub fn begin(
+fn begin(
     seeds: &[u32],
     positions: usize,
     thresholds: &mut [i32],
@@ -174,32 +175,35 @@ fn given_of<'a>(
     }
 }
 
+// The counts of a store, and the caller's context.
+fn course_of(store: &Store) -> Course
+    ensures { result ≡ course store.now.budget store.now.context }
+{
+    Course {
+        budget: store.budget,
+        context: store.context,
+    }
+}
+
 // The run of a store that admits it.
 fn run_open(
     store: &mut Store,
-    nodes: &[u64],
-    constants: &[u32],
-    rules: &[u32],
-    seeds: &[u32],
+    given: &Given,
     thresholds: &mut [i32],
     arguments: &mut [u32],
     slots: &mut [u32],
 )
     requires { (store.old.counts.rules ≤ size.rules) × (store.old.counts.thresholds + 2 ≤ length thresholds.old) }
-    ensures { tables store.new thresholds.new arguments.new slots.new ≡ ran_on (read nodes.now constants.now rules.now seeds.now) (tables store.old thresholds.old arguments.old slots.old) }
+    ensures { tables store.new thresholds.new arguments.new slots.new ≡ ran_on (given_in given.now) (tables store.old thresholds.old arguments.old slots.old) }
 {
-    let given = given_of(store, nodes, constants, rules, seeds);
-    let mut course = Course {
-        budget: store.budget,
-        context: store.context,
-    };
+    let mut course = course_of(store);
     let mut marks = store.counts.thresholds;
     let mut current = [0u32; sizes::ARGUMENT_CELLS];
     let mut growth = [0u32; sizes::GROWTH_CELLS];
     let mut bounds = [0u32; sizes::BOUNDS_CELLS];
     let begun = begin(
-        seeds,
-        store.counts.positions,
+        given.seeds,
+        given.positions,
         thresholds,
         &mut marks,
         &mut current,
@@ -211,7 +215,7 @@ fn run_open(
         return end(store, marks, phase, course.budget);
     }
     let ran = finish(
-        &given,
+        given,
         &thresholds[..marks],
         &mut current,
         &mut growth,
@@ -219,7 +223,15 @@ fn run_open(
         &mut course,
     );
     conclude(
-        store, seeds, &current, &bounds, arguments, slots, ran, marks, course,
+        store,
+        given.seeds,
+        &current,
+        &bounds,
+        arguments,
+        slots,
+        ran,
+        marks,
+        course,
     );
 }
 
@@ -281,8 +293,7 @@ pub fn run(
     if !has_room(&store.counts) {
         return Err(Refusal::Full);
     }
-    run_open(
-        store, nodes, constants, rules, seeds, thresholds, arguments, slots,
-    );
+    let given = given_of(store, nodes, constants, rules, seeds);
+    run_open(store, &given, thresholds, arguments, slots);
     Ok(())
 }

@@ -35,45 +35,32 @@ impl Session {
     // One call but the run, by its number. Any other number is no call.
     pub fn step(&mut self, call: u64) -> Result<(), Malformed> {
         match call {
-            1 => self.fresh()?,
-            2 => {
-                let context = u32::try_from(self.reader.wide()?).map_err(|_| Malformed {})?;
-                self.writer.done(self.store.context(context));
+            1 => self.fresh(),
+            2 => self.context(),
+            3 => self.work(),
+            4..=5 => self.predicate(call),
+            6..=7 => self.constant(call),
+            10..=15 => self.expression(call),
+            20..=21 => self.seed(call),
+            22 => self.rule(),
+            40..=43 => self.reading(call),
+            50..=51 => {
+                self.state_line(call);
+                Ok(())
             }
-            3 => {
-                let amount = self.reader.wide()?;
-                self.writer.done(self.store.work(amount));
-            }
-            4..=5 => self.predicate(call)?,
-            6..=7 => self.constant(call)?,
-            10..=15 => {
-                let value = parts::expression(&mut self.reader, call)?;
-                let answer = expressions::expression(
-                    &mut self.store,
-                    &mut self.tables.nodes,
-                    value,
-                );
-                self.writer.answered(answer);
-            }
-            20..=21 => self.seed(call)?,
-            22 => self.rule()?,
-            40 => {
-                let argument = self.reader.wide()?;
-                self.argument_line(argument);
-            }
-            41 => {
-                let argument = self.reader.wide()?;
-                self.contexts_line(argument);
-            }
-            42 => self.slot()?,
-            43 => {
-                let constant = self.reader.wide()?;
-                self.key_line(constant);
-            }
-            50 => self.counts_line(),
-            51 => self.stop_line(),
-            _ => return Err(Malformed {}),
+            _ => Err(Malformed {}),
         }
+    }
+
+    fn context(&mut self) -> Result<(), Malformed> {
+        let context = u32::try_from(self.reader.wide()?).map_err(|_| Malformed {})?;
+        self.writer.done(self.store.context(context));
+        Ok(())
+    }
+
+    fn work(&mut self) -> Result<(), Malformed> {
+        let amount = self.reader.wide()?;
+        self.writer.done(self.store.work(amount));
         Ok(())
     }
 
@@ -110,6 +97,14 @@ impl Session {
             &mut tables.thresholds,
             key,
         );
+        self.writer.answered(answer);
+        Ok(())
+    }
+
+    // The calls 10 to 15.
+    fn expression(&mut self, call: u64) -> Result<(), Malformed> {
+        let value = parts::expression(&mut self.reader, call)?;
+        let answer = expressions::expression(&mut self.store, &mut self.tables.nodes, value);
         self.writer.answered(answer);
         Ok(())
     }
@@ -195,6 +190,18 @@ impl Session {
         self.writer.line(written, &line);
     }
 
+    // The calls 40 to 43.
+    fn reading(&mut self, call: u64) -> Result<(), Malformed> {
+        let id = self.reader.wide()?;
+        match call {
+            40 => self.argument_line(id),
+            41 => self.contexts_line(id),
+            42 => self.slot_lines(id)?,
+            _ => self.key_line(id),
+        }
+        Ok(())
+    }
+
     fn argument_line(&mut self, argument: u64) {
         let mut line = [0; report::LINE];
         let written = report::argument_line(
@@ -229,8 +236,7 @@ impl Session {
     }
 
     // Both lines of a slot, or one refusal.
-    fn slot(&mut self) -> Result<(), Malformed> {
-        let rule = self.reader.wide()?;
+    fn slot_lines(&mut self, rule: u64) -> Result<(), Malformed> {
         let slot = self.reader.wide()?;
         let tables = &self.tables;
         match numeric::slot(&self.store, &tables.rules, &tables.slots, rule, slot, false) {
@@ -244,20 +250,21 @@ impl Session {
     }
 
     fn contexts_line(&mut self, argument: u64) {
-        let records = &self.tables.records;
-        match numeric::context_count(&self.store, records, argument) {
-            Ok(count) => {
-                self.writer.put(b"p");
-                self.writer.number(argument);
-                for k in 0..count {
-                    if let Ok(context) = numeric::context(&self.store, records, argument, k) {
-                        self.writer.number(context);
-                    }
-                }
-                self.writer.put(b"\n");
-            }
+        match numeric::context_count(&self.store, &self.tables.records, argument) {
+            Ok(count) => self.context_words(argument, count),
             Err(refusal) => self.writer.refused(refusal),
         }
+    }
+
+    // The contexts of an argument, which are so many.
+    fn context_words(&mut self, argument: u64, count: u64) {
+        self.writer.put(b"p");
+        self.writer.number(argument);
+        for k in 0..count {
+            let context = numeric::context(&self.store, &self.tables.records, argument, k);
+            self.writer.number(context.unwrap_or(0));
+        }
+        self.writer.put(b"\n");
     }
 
     fn key_line(&mut self, constant: u64) {
@@ -265,17 +272,21 @@ impl Session {
             Ok(key) => {
                 self.writer.put(b"k");
                 self.writer.number(constant);
-                match key {
-                    Constant::Number(value) => {
-                        self.writer.put(b" number ");
-                        self.writer.integer(value);
-                        self.writer.put(b"\n");
-                    }
-                    Constant::Name => self.name_words(constant),
-                    Constant::Large => self.writer.put(b" large\n"),
-                }
+                self.key_words(constant, key);
             }
             Err(refusal) => self.writer.refused(refusal),
+        }
+    }
+
+    fn key_words(&mut self, constant: u64, key: Constant) {
+        match key {
+            Constant::Number(value) => {
+                self.writer.put(b" number ");
+                self.writer.integer(value);
+                self.writer.put(b"\n");
+            }
+            Constant::Name => self.name_words(constant),
+            Constant::Large => self.writer.put(b" large\n"),
         }
     }
 
@@ -289,6 +300,15 @@ impl Session {
             self.writer.number(u64::from(*byte));
         }
         self.writer.put(b"\n");
+    }
+
+    // The calls 50 and 51.
+    fn state_line(&mut self, call: u64) {
+        if call == 50 {
+            self.counts_line();
+        } else {
+            self.stop_line();
+        }
     }
 
     // All counts.

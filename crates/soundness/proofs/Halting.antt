@@ -48,7 +48,7 @@ use Rattle.passes.specs.Step.{Grown, within, with_change, widen_value, grow, Ste
 use Rattle.passes.specs.Pass.{Ascent, replaced, renew, pass, passes, ascend}
 use Rattle.results.specs.Result.{keep_bounds, keep_both, bound, close, last_round, closing, last}
 use Rattle.engine.specs.Run.{Beginning, enter_ends, seeded, begin, Progress, ascend_and_end, finish}
-use Rattle.engine.specs.Call.{Read, read, Tables, tables, concluded, finished, ran_on, run_call}
+use Rattle.engine.specs.Call.{Read, read, Tables, tables, given_of, concluded, finished, ran_on, run_call}
 use Rattle.input.specs.Input.{Call, Reply, Typed, call, left, played}
 use Rattle.input.specs.Input as input
 use Rattle.input.proofs.Reached.{Sized, Reached, fresh_reached}
@@ -284,17 +284,17 @@ module _ (r : Read) (t : Tables) where
   concluded_well seeds n marks x (completes h) = tt
   concluded_well seeds n marks x (stops {e = e} h) = numbered e.resource (inr h)
 
-  finished_well : (x : Run Stop Beginning (Unit {0})) → Halted RunResource x → EndsWell (finished r t x).header.phase
+  finished_well : (x : Run Stop Beginning (Unit {0})) → Halted RunResource x → EndsWell (finished (given_of r t.header) t x).header.phase
   finished_well x (completes {s = s} h) = concluded_well r.seeds s.entry.count s.entry.table _ ((finish_halts _ _).at _)
   finished_well x (stops {e = e} h) = numbered e.resource h
 
   -- whatever stands in the tables: a run ends, and where it is stopped it is with 3, 8, 9 or 10
-  pub ran_ends : EndsWell (ran_on r t).header.phase
+  pub ran_ends : EndsWell (ran_on (given_of r t.header) t).header.phase
   unfolding ran_on
   ran_ends = finished_well _ ((begin_halts r.seeds t.header.counts.positions).at _)
 
-  pub ran_stops : StopsWell (ran_on r t).header.phase
-  ran_stops = stops_well (ran_on r t).header.phase ran_ends
+  pub ran_stops : StopsWell (ran_on (given_of r t.header) t).header.phase
+  ran_stops = stops_well (ran_on (given_of r t.header) t).header.phase ran_ends
 
 -- ---- the run as a call
 
@@ -309,7 +309,7 @@ lent t arguments slots = tables t.header t.thresholds arguments slots
 module _ (t : input.Tables) (reached : Reached t) (opened : t.header.phase ≡ Open)
     (arguments slots : List ℕ) (wide : length arguments ≡ size.argument_cells) (long : length slots ≡ size.bounds_cells) where
   -- it is not turned down
-  pub run_taken : run_call (given t) (lent t arguments slots) ≡ going tt (ran_on (given t) (lent t arguments slots))
+  pub run_taken : run_call (given t) (lent t arguments slots) ≡ going tt (ran_on (given_of (given t) t.header) (lent t arguments slots))
   unfolding run_call
   run_taken =
       rw (

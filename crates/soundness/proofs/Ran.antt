@@ -30,7 +30,7 @@ use Rattle.slots.proofs.Moved.{moved_row, moved_total}
 use Rattle.slots.proofs.Copied.{Same}
 use Rattle.rounds.proofs.Live.{Room, blank_formed}
 use Rattle.engine.specs.Run.{Beginning, beginning, Progress, progress, finish}
-use Rattle.engine.specs.Call.{Tables, tables, read, concluded, finished, ran_on}
+use Rattle.engine.specs.Call.{Tables, tables, read, given_of, concluded, finished, ran_on}
 use Rattle.engine.proofs.Finished.{Settled, finish_alone, finish_ends}
 use Rattle.engine.proofs.Begun.{Ended, Sown, begin_ends}
 use Rattle.input.specs.Input as input
@@ -128,7 +128,7 @@ module _ {p : Accepted} {t : input.Tables} (g : Grounded p t) where
         (λ o. holds_as o u.current (moved u.current n arguments) (λ j l. moved_row u.current arguments h.0.room.1 n j size l) (h.1 o))
     conclude_sound th all m marks x (stops {e = r} {s = u} h) = halted refl (omega (arith, seeds_live)) refl refl
 
-    pub ran_sound : Ran lent (ran_on (read t.nodes t.constants t.rules t.seeds) lent)
+    pub ran_sound : Ran lent (ran_on (given_of (read t.nodes t.constants t.rules t.seeds) t.header) lent)
     unfolding ran_on
     ran_sound =
         go _
@@ -140,7 +140,7 @@ module _ {p : Accepted} {t : input.Tables} (g : Grounded p t) where
 
         go : (x : Run Stop Beginning (Unit {0})) →
             Ends (λ _ b. Sown t.seeds n e b.entry.budget.statistics.entries b.current × Ended (entry t.header.budget t.header.counts.thresholds t.thresholds) b.entry) (λ _ b. b.entry.budget.statistics.entries ≡ e) x →
-            Ran lent (finished (read t.nodes t.constants t.rules t.seeds) lent x)
+            Ran lent (finished (given_of (read t.nodes t.constants t.rules t.seeds) t.header) lent x)
         go x (completes {a = a} {s = b} h) =
             let th = take b.entry.count b.entry.table in
             let all = all_take Number b.entry.count b.entry.table h.1.marks.numbers in

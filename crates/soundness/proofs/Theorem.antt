@@ -27,7 +27,7 @@ use Rattle.store.specs.declared.Phase.TheVariants.{Absent, Open, Completed, Stop
 use Rattle.store.specs.declared.Store.{Store}
 use Rattle.store.specs.Store.{admits, empty, fresh_of}
 use Rattle.store.specs.Calls.{open?}
-use Rattle.engine.specs.Call.{read, sized, results_sized, spacious, ran_on, run_call}
+use Rattle.engine.specs.Call.{read, sized, results_sized, spacious, given_of, ran_on, run_call}
 use Rattle.engine.specs.Call as engine
 use Rattle.input.specs.Input as input
 use Rattle.input.proofs.Played.{call_keeps}
@@ -171,7 +171,7 @@ module _ (ties : (c : input.Call) → input.Typed c → (p : Accepted) (t : inpu
         tables = read s.tables.nodes s.tables.constants s.tables.rules s.tables.seeds
 
         ran : sized (length s.tables.nodes) (length s.tables.constants) (length s.tables.rules) (length s.tables.seeds) (length s.tables.thresholds) && results_sized (length s.arguments) (length s.slots) ≡ true →
-            spacious s.tables.header.counts ≡ true → Ran (ground p s.tables tied) (for_run s) (ran_on tables (for_run s))
+            spacious s.tables.header.counts ≡ true → Ran (ground p s.tables tied) (for_run s) (ran_on (given_of tables s.tables.header) (for_run s))
         ran z q =
             let wide : length s.arguments ≡ size.argument_cells = eqb-true (length s.arguments) size.argument_cells (and_left _ (eqb (length s.slots) size.bounds_cells) (and_right (sized (length s.tables.nodes) (length s.tables.constants) (length s.tables.rules) (length s.tables.seeds) (length s.tables.thresholds)) _ z)) in
             let few : s.tables.header.counts.thresholds ≤ size.thresholds_before_run =

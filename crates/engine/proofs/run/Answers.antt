@@ -12,4 +12,4 @@ run_open-requires c =
 pub returns : goal.returns
 returns c =
     let a = c.args in
-    run_on (read a.nodes.now a.constants.now a.rules.now a.seeds.now) a.store.now a.thresholds.now a.arguments.now a.slots.now c.is_sized.ensures c.if-not-is_sized.false c.is_result_sized.ensures c.if-not-is_result_sized.false c.admits.ensures c.if-not-admits.false c.has_room.ensures c.if-not-has_room.false c.run_open.ensures
+    run_on (read a.nodes.now a.constants.now a.rules.now a.seeds.now) a.store.now a.thresholds.now a.arguments.now a.slots.now c.is_sized.ensures c.if-not-is_sized.false c.is_result_sized.ensures c.if-not-is_result_sized.false c.admits.ensures c.if-not-admits.false c.has_room.ensures c.if-not-has_room.false (rw c.given_of-given.ensures at c.run_open.ensures)
