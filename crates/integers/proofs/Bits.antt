@@ -21,56 +21,14 @@ module _ {w : Width} {a b : ℤ} (fa : SFits w a) (fb : SFits w b) where
   pub lt_at : {t : Bool} → lt_z (to_z w (of_z w a)) (to_z w (of_z w b)) ≡ t → lt_z a b ≡ t
   lt_at e = rw (to_z-of_z fa, to_z-of_z fb) at e
 
-  pub le_at : {t : Bool} → le_z (to_z w (of_z w a)) (to_z w (of_z w b)) ≡ t → le_z a b ≡ t
-  le_at e = rw (to_z-of_z fa, to_z-of_z fb) at e
-
   -- what a callee says of two signed arguments
   pub read₂ : {X : Type 0} {r : X} (f : ℤ → ℤ → X) → r ≡ f (to_z w (of_z w a)) (to_z w (of_z w b)) → r ≡ f a b
   read₂ f e = rw (to_z-of_z fa, to_z-of_z fb) at e
-
--- equal bits are equal numbers
-module _ {w : Width} {a b : ℤ} (fa : SFits w a) (fb : SFits w b) where
-  pub same_bits : of_z w a ≡ of_z w b → a ≡ b
-  same_bits e = sym (to_z-of_z fa) ∙ ap (to_z w) e ∙ to_z-of_z fb
-
-  pub eq_at : eqb (of_z w a) (of_z w b) ≡ eq_z a b
-  eq_at = go (eqb (of_z w a) (of_z w b)) refl
-    where
-      go : (t : Bool) → eqb (of_z w a) (of_z w b) ≡ t → t ≡ eq_z a b
-      go true e = sym (yes_eq a b (same_bits (eqb-true (of_z w a) (of_z w b) e)))
-      go false e = sym (no_eq a b (λ q. eqb-false (of_z w a) (of_z w b) e (ap (of_z w) q)))
-
--- the least and the greatest of two signed locals, by a test
-module _ {w : Width} {a b : ℤ} (fa : SFits w a) (fb : SFits w b) where
-  pub min_yes : lt_z (to_z w (of_z w a)) (to_z w (of_z w b)) ≡ true → to_z w (of_z w a) ≡ min_z a b
-  unfolding min_z
-  min_yes e = rw (lt_at fa fb e, to_z-of_z fa)
-
-  pub min_no : lt_z (to_z w (of_z w a)) (to_z w (of_z w b)) ≡ false → to_z w (of_z w b) ≡ min_z a b
-  unfolding min_z
-  min_no e = rw (lt_at fa fb e, to_z-of_z fb)
-
-  pub max_yes : lt_z (to_z w (of_z w a)) (to_z w (of_z w b)) ≡ true → to_z w (of_z w b) ≡ max_z a b
-  unfolding max_z
-  max_yes e = rw (lt_at fa fb e, to_z-of_z fb)
-
-  pub max_no : lt_z (to_z w (of_z w a)) (to_z w (of_z w b)) ≡ false → to_z w (of_z w a) ≡ max_z a b
-  unfolding max_z
-  max_no e = rw (lt_at fa fb e, to_z-of_z fa)
 
 -- ---- a result of a call, whose type gives `mag z`
 
 pub sf32 : (z : ℤ) → mag z < 2 ^ 31 → SFits w32 z
 sf32 z p = record { sfits = p }
-
-pub sf64 : (z : ℤ) → mag z < 2 ^ 63 → SFits w64 z
-sf64 z p = record { sfits = p }
-
-pub back32 : (z : ℤ) → mag z < 2 ^ 31 → to_z w32 (of_z w32 z) ≡ z
-back32 z p = to_z-of_z {w = w32} (record { sfits = p })
-
-pub back64 : (z : ℤ) → mag z < 2 ^ 63 → to_z w64 (of_z w64 z) ≡ z
-back64 z p = to_z-of_z {w = w64} (record { sfits = p })
 
 -- ---- 32 bits, by the order
 
@@ -127,11 +85,3 @@ widens z f = rw (to_z-of_z f) (sfits_widen {w = w32} tt f)
 
 pub widened_is : (z : ℤ) → SFits w32 z → to_z w64 (of_z w64 (to_z w32 (of_z w32 z))) ≡ z
 widened_is z f = rw (to_z-of_z f, to_z-of_z (sfits_widen {w = w32} {w' = w64} tt f))
-
--- an operation on two numbers of 32 bits, worked in 64: it fits, and it is exact
-module _ (f : ℤ → ℤ → ℤ) (fits : (a b : ℤ) → SFits w32 a → SFits w32 b → SFits w64 (f a b)) {a b : ℤ} (fa : SFits w32 a) (fb : SFits w32 b) where
-  pub worked_fits : SFits w64 (f (to_z w64 (of_z w64 (to_z w32 (of_z w32 a)))) (to_z w64 (of_z w64 (to_z w32 (of_z w32 b)))))
-  worked_fits = rw (widened_is a fa, widened_is b fb) (fits a b fa fb)
-
-  pub worked_is : to_z w64 (of_z w64 (f (to_z w64 (of_z w64 (to_z w32 (of_z w32 a)))) (to_z w64 (of_z w64 (to_z w32 (of_z w32 b)))))) ≡ f a b
-  worked_is = rw (widened_is a fa, widened_is b fb) (to_z-of_z (fits a b fa fb))

@@ -1,4 +1,4 @@
--- Insertion: as code does it, a cell at a time with one value in hand, and what stands where afterwards.
+-- Insertion: what stands where afterwards.
 use Prim.Native.Nat.{ℕ, suc, ◌+◌, ◌-◌, ◌≤◌, ◌<◌}
 use native.Mathlib.Omega.{arith}
 use native.Mathlib.Nat.{add-zero}
@@ -11,37 +11,6 @@ use Rattle.integers.specs.Lists.{All, inserted}
 use Rattle.integers.proofs.Stores.{sets_before, sets_after, sets_in, sets_out, all_sets, all_take, all_drop}
 
 module _ {A : Type 0} where
-  -- ---- a cell at a time: what is to come of it, r, is what v makes of l when it is inserted at i
-
-  pub record Inserting (r l : List A) (i count : ℕ) (v : A) : Type 0 where
-    pub rest : r ≡ inserted l i count v
-
-  pub inserting : (l : List A) (at count : ℕ) (v : A) → Inserting (inserted l at count v) l at count v
-  inserting l at count v = record { rest = refl }
-
-  -- the value that stood at i is in hand next
-  next : (z : A) (l : List A) (i count : ℕ) (v : A) → i < count → inserted l i count v ≡ inserted (set l i v) (i + 1) count (get_or l i z)
-  unfolding inserted
-  next z l i count v h = elim (dec_lt i (length l)) [
-    | yes k ↦
-        let e : i + 1 ≡ suc i = omega arith in
-        let n : count - i ≡ suc (count - suc i) = omega arith in
-        rw (e, n, drop-cons l i z k, drop-set-lt (suc i) l i v (omega arith))
-    | no k ↦
-        let e : i + 1 ≡ suc i = omega arith in
-        rw e
-        (sets_out (take (count - i) (drop i l)) (set l i v) (suc i) (simp length-set (omega arith))
-        ∙ sym (sets_out (get_or l i z ∷ take (count - suc i) (drop (suc i) (set l i v))) (set l i v) (suc i) (simp length-set (omega arith))))
-  ]
-
-  module _ {r l : List A} {i count : ℕ} {v : A} (p : Inserting r l i count v) where
-    pub inserting_more : {a : A} {m : List A} (z : A) → i < count → a ≡ get_or l i z → m ≡ set l i v → Inserting r m (i + 1) count a
-    inserting_more z h e d = record { rest = p.rest ∙ next z l i count v h ∙ rw (d, e) }
-
-    pub inserting_last : {m : List A} → count ≤ i → m ≡ set l i v → m ≡ r
-    unfolding inserted
-    inserting_last h d = let e : count - i ≡ 0 = omega arith in d ∙ sym (p.rest ∙ rw e)
-
   -- ---- what stands where
 
   module _ (z : A) (l : List A) (at count : ℕ) (v : A) where

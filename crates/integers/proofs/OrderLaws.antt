@@ -101,12 +101,6 @@ true_of : (t : Bool) → T t → t ≡ true
 true_of true h = refl
 true_of false h = absurd h
 
-pub Le-is : (a b : ℤ) → Le a b ↔ (a ≤ℤ b)
-Le-is a b = (λ h. record { le = subst T (sym (yes_le a b h)) tt }, λ h. le_yes a b (true_of (le_z a b) h.le))
-
-pub Lt-is : (a b : ℤ) → Lt a b ↔ (a <ℤ b)
-Lt-is a b = (λ h. record { lt = subst T (sym (yes_lt a b h)) tt }, λ h. lt_yes a b (true_of (lt_z a b) h.lt))
-
 pub le_antisym : (a b : ℤ) → Le a b → Le b a → a ≡ b
 le_antisym (pos a) (pos b) h k = ap pos (omega arith)
 le_antisym (pos a) (negsuc b) h k = absurd (omega arith)
@@ -152,11 +146,6 @@ max_is_left a b h = le_antisym (max_z a b) a (max_greatest a b a (omega arith) h
 pub max_is_right : (a b : ℤ) → Le a b → max_z a b ≡ b
 max_is_right a b h = le_antisym (max_z a b) b (max_greatest a b b h (omega arith)) (max_right a b)
 
--- the order of the two does not matter
-pub min_comm : (a b : ℤ) → min_z a b ≡ min_z b a
-min_comm a b =
-    le_antisym (min_z a b) (min_z b a) (min_least b a (min_z a b) (min_right a b) (min_left a b)) (min_least a b (min_z b a) (min_right b a) (min_left b a))
-
 pub max_comm : (a b : ℤ) → max_z a b ≡ max_z b a
 max_comm a b =
     le_antisym (max_z a b) (max_z b a) (max_greatest a b (max_z b a) (max_right b a) (max_left b a)) (max_greatest b a (max_z a b) (max_right a b) (max_left a b))
@@ -180,11 +169,3 @@ number_yes z e =
 pub yes_number : (z : ℤ) → Number z → number? z ≡ true
 unfolding number?
 yes_number z h = rw (yes_le least32 z h.0, yes_le z greatest32 h.1)
-
-pub too_low : (z : ℤ) → Lt z least32 → number? z ≡ false
-unfolding number?
-too_low z h = rw (no_le least32 z h)
-
-pub too_high : (z : ℤ) → Lt greatest32 z → number? z ≡ false
-unfolding number?
-too_high z h = rw (yes_le least32 z (omega arith), no_le z greatest32 h)

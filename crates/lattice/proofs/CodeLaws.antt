@@ -110,8 +110,6 @@ module _ (u v : Value) (m : Meter) {m' : Meter} where
     other_bounds p = then_on _ _ _ h (no_on _ _ _ (sym q ∙ p) (pure_is _ _))
 
 module _ (x y : Option (List ℕ)) (m : Meter) where
-  pub lists_same : {l r : List ℕ} {z : Run Stop Meter Bool} → some l ≡ x → some r ≡ y → length l ≡ length r → z ≡ same_ids l r m → z ≡ same_lists x y m
-  lists_same {l} {r} p q k h = rw (← p, ← q, eq-eqb (length l) (length r) k) h
 
   pub lengths_other : {l r : List ℕ} → some l ≡ x → some r ≡ y → (length l ≡ length r → ⊥) → going false m ≡ same_lists x y m
   lengths_other {l} {r} p q k = rw (← p, ← q, ne_eqb (length l) (length r) k) (pure_is _ _)

@@ -34,10 +34,6 @@ module _ (r : Resource) (old amount limit : ℕ) where
   unfolding charge_of
   sum_within p = rw (le-leb (old + amount) limit p)
 
--- the setter of a resource that a match has told
-pub at_resource : (r : Resource) (n : ℕ) (s : Statistics) {q : Resource} → q ≡ r → with_count r n s ≡ with_count q n s
-at_resource r n s e = ap (λ (x : Resource). with_count x n s) (sym e)
-
 -- ---- while entries are live that go whichever way it ends
 
 module _ {A : Type 0} (n : ℕ) (c : Metered Stop Meter A) (m : Meter) where

@@ -3,7 +3,7 @@
 use mathlib.Core.Path.{◌≡◌, refl}
 use mathlib.Core.Bool.{Bool, true, false, cond}
 use Rattle.limits.proofs.Monad.{Holds}
-use Rattle.limits.specs.Metered.{Run, going, stopped, Metered, pure, halt, after, ◌>>=◌, ◌>>◌, mapped, through}
+use Rattle.limits.specs.Metered.{Run, going, stopped, Metered, pure, after, ◌>>=◌, ◌>>◌, mapped, through}
 
 pub data Ends {E S A : Type 0} (P : A → S → Type 0) (Q : E → S → Type 0) : Run E S A → Type 0 where
   completes : {a : A} {s : S} → P a s → Ends P Q (going a s)
@@ -13,10 +13,6 @@ module _ {E S A : Type 0} {P : A → S → Type 0} {Q : E → S → Type 0} wher
   pub ends_pure : (a : A) (s : S) → P a s → Ends P Q (pure a s)
   unfolding pure
   ends_pure a s h = completes h
-
-  pub ends_halt : (e : E) (s : S) → Q e s → Ends P Q (halt e s)
-  unfolding halt
-  ends_halt e s h = stops h
 
   pub ends_test : (t : Bool) {x y : Run E S A} → (t ≡ true → Ends P Q x) → (t ≡ false → Ends P Q y) → Ends P Q (cond t x y)
   ends_test true f g = f refl

@@ -5,18 +5,9 @@ use mathlib.Core.Path.{◌≡◌, refl, ap, subst}
 use mathlib.Core.Bool.{Bool, true, false, cond}
 use mathlib.Core.List.{List, [], ◌∷◌, ◌++◌, Memᴰ}
 use Rattle.integers.specs.Lists.{All}
-use Rattle.limits.specs.Metered.{Run, going, stopped, Metered, pure, halt, after, ◌>>=◌, ◌>>◌, fold_m, mapped, through}
+use Rattle.limits.specs.Metered.{Run, going, stopped, Metered, pure, after, ◌>>=◌, ◌>>◌, fold_m, mapped, through}
 
 -- ---- the laws of the monad, at every state
-
-module _ {E S A B : Type 0} where
-  pub pure_bind : (a : A) (f : A → Metered E S B) (s : S) → (pure a >>= f) s ≡ f a s
-  unfolding pure ◌>>=◌ after
-  pure_bind a f s = refl
-
-  pub halt_bind : (e : E) (f : A → Metered E S B) (s : S) → (halt e >>= f) s ≡ halt e s
-  unfolding halt ◌>>=◌ after
-  halt_bind e f s = refl
 
 module _ {E S A : Type 0} where
   after_pure : (x : Run E S A) → after x pure ≡ x
@@ -122,10 +113,6 @@ module _ {E S A : Type 0} where
   unfolding pure
   by_pure a h = record { at = λ s. h }
 
-  pub by_halt : {P : A → Type 0} (e : E) → Ensures P (halt e)
-  unfolding halt
-  by_halt e = record { at = λ s. tt }
-
   any_holds : (x : Run E S A) → Holds (λ _. Unit {0}) x
   any_holds (going a s) = tt
   any_holds (stopped e s) = tt
@@ -219,10 +206,6 @@ module _ {E S A : Type 0} where
   pub steady_pure : (a : A) → Steady (pure a)
   unfolding pure
   steady_pure a = record { same = λ s t. refl }
-
-  pub steady_halt : (e : E) → Steady (halt e)
-  unfolding halt
-  steady_halt e = record { same = λ s t. tt }
 
   pub steady_test : (b : Bool) {m n : Metered E S A} → (b ≡ true → Steady m) → (b ≡ false → Steady n) → Steady (cond b m n)
   steady_test true f g = f refl

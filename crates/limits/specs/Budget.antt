@@ -31,10 +31,6 @@ positions = charge Positions
 abbrev pub links : ℕ → Metered Stop Budget (Unit {0})
 links = charge Links
 
--- `Budget::retain`
-abbrev pub retain : ℕ → Metered Stop Budget (Unit {0})
-retain = charge ValueEntries
-
 -- `round` of engine.rs
 abbrev pub round : Metered Stop Budget (Unit {0})
 round = charge Rounds 1

@@ -23,9 +23,6 @@ module _ {E S A : Type 0} where
   unfoldable pub pure : A → Metered E S A
   pure a = λ s. going a s
 
-  unfoldable pub halt : E → Metered E S A
-  halt e = λ s. stopped e s
-
 module _ {E S A B : Type 0} where
   unfoldable pub after : Run E S A → (A → Metered E S B) → Run E S B
   after (going a s) f = f a s

@@ -138,9 +138,6 @@ module _ (records : List ℕ) (a : ℕ) where
   pub found_at : (n count k : ℕ) {r : Bool} {f c : ℕ} → f ≡ length (of n) → f ≡ k → n < count → r ≡ eqb (get_or records (2 * n) 0) a → r ≡ true → c ≡ context n → given c ≡ nth (of count) k
   found_at n count k p q h e t z = rw (z, sym q ∙ p) (found n count h (sym e ∙ t))
 
-  pub none_left : (n count k : ℕ) {f : ℕ} → n ≡ count → f ≡ length (of n) → f ≤ k → refused (told Missing) ≡ nth (of count) k
-  none_left n count k e q h = rw (le-ltb k (length (of count)) (subst (λ (m : ℕ). m ≤ k) (q ∙ ap (λ (m : ℕ). length (of m)) e) h)) refl
-
 -- ---- slots: those of rules that the table has rows for
 
 sized_true : (sized : Bool) (p : Phase) {u : Unit {0}} → readable sized p ≡ Ok u → sized ≡ true
@@ -169,14 +166,6 @@ in_table rules r k slots p z h = (go (ltb r 256) refl, omega arith)
 
 pub no_name : (names constants : List ℕ) (k : ℕ) {n : ℕ} → n ≡ kind_at constants k → (n ≡ 2 → ⊥) → [] ≡ name_of names constants k
 no_name names constants k h o = rw (ne_eqb (kind_at constants k) 2 (λ z. o (h ∙ z))) refl
-
-pub a_name : (names constants : List ℕ) (k : ℕ) {n m : ℕ} {t : List ℕ} → n ≡ kind_at constants k → n ≡ 2 → m ≡ payload_at constants k → t ≡ name_at names k m → t ≡ name_of names constants k
-a_name names constants k h e q z = rw (eq-eqb (kind_at constants k) 2 (sym h ∙ e)) (z ∙ ap (name_at names k) q)
-
-pub bound_read_lem : (cells : List ℕ) (at : ℕ) {i : Integrality} {v : Interval} {a b c d : ℕ} →
-    a ≡ get_or cells at 0 → i ≡ integrality_of a → b ≡ get_or cells (at + 1) 0 → c ≡ get_or cells (at + 2) 0 → d ≡ get_or cells (at + 3) 0 → v ≡ interval_of b (of_cell c) (of_cell d) →
-    record { integrality = i; interval = v } ≡ bound_at cells at
-bound_read_lem cells at p i q r s v = rw (i, v, p, q, r, s) refl
 
 pub place_fits : (r k : ℕ) (after : Bool) {n : ℕ} → n ≡ bound_place r k after → r < 256 → k < 16 → n < 32768
 place_fits r k true h p q = omega arith

@@ -127,12 +127,6 @@ module _ (c : Check) (s : Store) where
   unfolding through mapped
   checking_off h = rw (← h)
 
--- a check leaves the counts of rows and the context
-pub checking_kept : (m : Check) (s : Store) {u : Store} → going tt u ≡ checking m s → (u.counts ≡ s.counts) × (u.context ≡ s.context)
-checking_kept m s {u} h =
-    let c = came (λ t. meter_of t.budget) (λ t b. with_budget (with_meter b t.budget) t) (λ t b. with_budget (with_meter b t.budget) t) (λ e. e) m s h in
-    (ap (λ (t : Store). t.counts) c.is, ap (λ (t : Store). t.context) c.is)
-
 -- ---- a head, and all of them
 
 module _ (sc : Scope) (h : Head) (s : Store) (t : List ℕ) where
@@ -173,17 +167,11 @@ pub record Heading (sc : Scope) (s₀ : Store) (t₀ : List ℕ) (items : List H
   pub context : s.context ≡ s₀.context
   pub few : s.counts.provenance ≤ s₀.counts.provenance + i
 
-pub heading_none : (sc : Scope) (items : List Head) (s : Store) (t : List ℕ) → Heading sc s t items 0 s t
-heading_none sc items s t = record { at = refl; positions = refl; context = refl; few = omega arith }
-
 room_left : (c : Context) (n i m k : ℕ) → Room n c k → i < n → m ≤ k + i → Room 1 c m
 room_left None n i m k h l f = tt
 room_left (Some c) n i m k h l f = omega arith
 
 module _ {sc : Scope} {s₀ : Store} {t₀ : List ℕ} (items : List Head) {i : ℕ} {s : Store} {t : List ℕ} (p : Heading sc s₀ t₀ items i s t) where
-  pub heading_room : s₀.counts.positions ≤ 256 → Room (length items) s₀.context s₀.counts.provenance → i < length items → (s.counts.positions ≤ 256) × Room 1 s.context s.counts.provenance
-  heading_room h k l =
-      (omega (arith, p.positions), subst (λ (c : Context). Room 1 c s.counts.provenance) (sym p.context) (room_left s₀.context (length items) i s.counts.provenance s₀.counts.provenance k l p.few))
 
   pub heading_all : length items ≤ i → going tt (records s t) ≡ check_heads sc items (records s₀ t₀)
   unfolding check_heads
@@ -241,11 +229,6 @@ roomy s e =
       ltb-true _ _ (and_left (ltb s.counts.rules 256) _ e),
       (leb-true _ _ (and_left (leb s.counts.positions 256) _ g), room_enough s.context s.counts.provenance (and_right (leb s.counts.positions 256) _ g)),
     )
-
--- fewer records need less room
-pub room_fewer : (c : Context) (n k : ℕ) → n ≤ 16 → Room 16 c k → Room n c k
-room_fewer None n k h r = tt
-room_fewer (Some c) n k h r = omega arith
 
 -- ---- what a rule charges
 

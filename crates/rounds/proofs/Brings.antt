@@ -36,9 +36,6 @@ module _ {size : List ℕ → ℕ} where
   pub brings_then : {F G H : List ℕ → Type 0} {m k : Metered Stop Slots (Unit {0})} → Brings size F G m → Brings size G H k → Brings size F H (m >> k)
   brings_then {m = m} {k = k} h l = record { at = λ e s p q. ends_then m k s (h.at e s p q) (λ _ t z. l.at e t z.0 z.1) (λ _ t z. z) }
 
-  pub brings_as : {F G : List ℕ → Type 0} (J K : List ℕ → Type 0) {m : Metered Stop Slots (Unit {0})} → ((rows : List ℕ) → J rows → F rows) → ((rows : List ℕ) → G rows → K rows) → Brings size F G m → Brings size J K m
-  brings_as J K f g h = record { at = λ e s p q. ends_as (h.at e s p (f s.rows q)) (λ _ t z. (z.0, g t.rows z.1)) (λ _ t z. z) }
-
   -- a unit of work first
   pub brings_step : {F G : List ℕ → Type 0} {m : Metered Stop Slots (Unit {0})} → Brings size F G m → Brings size F G (after_unit m)
   brings_step {m = m} h = record {

@@ -35,13 +35,6 @@ use Rattle.seeds.specs.Seed.{dropped, joined, Rows, rows, paying, seed, constant
 
 -- ---- the live entries of a value
 
-pub few_entries : (v : Abstract) {n : ℕ} → length v.ids ≡ 16 → n ≡ entries_of (value_of v) → n ≤ 16
-few_entries v {n} l e = go v.kept e
-  where
-    go : (t : Bool) → n ≡ length (list_of (cond t (some (take v.len v.ids)) none)) → n ≤ 16
-    go true e = omega (arith, l, e, length-take v.len v.ids)
-    go false e = omega (arith, e)
-
 module _ (old v new : Value) (b : Budget) {m n : ℕ} (p : m ≡ entries_of old) (q : n ≡ entries_of v) {t : Bool} (l : t ≡ loses old.values new.values) {r : Budget} where
   pub drop_lost : {c : Budget} → t ≡ true → c ≡ widened_once b → r ≡ released (m + n) c → r ≡ dropped old v new b
   drop_lost e c d = rw (d, c, ← l, e, p, q)

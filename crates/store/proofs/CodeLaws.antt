@@ -129,24 +129,12 @@ module _ (m : Metered Stop Budget (Unit {0})) (s : Store) {t : Store} (h : going
   charged_context = ap (λ (u : Store). u.context) charged_budget.1
 
 module _ (arity : ℕ) (s : Store) (rows seeds : List ℕ) where
-  pub predicate_rows : (length rows ≡ size.predicate_cells → ⊥) → stopped (told Shape) (tables s rows seeds) ≡ predicate_call arity (tables s rows seeds)
-  unfolding predicate_call
-  predicate_rows n = rw (ne_eqb (length rows) size.predicate_cells n)
 
   module _ (n : length rows ≡ size.predicate_cells) where
-    pub predicate_seeds : (length seeds ≡ size.argument_cells → ⊥) → stopped (told Shape) (tables s rows seeds) ≡ predicate_call arity (tables s rows seeds)
-    unfolding predicate_call
-    predicate_seeds k = rw (eq-eqb (length rows) size.predicate_cells n, ne_eqb (length seeds) size.argument_cells k)
 
     module _ (k : length seeds ≡ size.argument_cells) {t : Bool} (h : t ≡ admits s.phase) where
-      pub predicate_closed : t ≡ false → stopped (told Closed) (tables s rows seeds) ≡ predicate_call arity (tables s rows seeds)
-      unfolding predicate_call
-      predicate_closed e = rw (eq-eqb (length rows) size.predicate_cells n, eq-eqb (length seeds) size.argument_cells k, ← h, e)
 
       module _ (o : t ≡ true) {f : Bool} (q : f ≡ room_for s.counts.predicates s.counts.positions arity) where
-        pub predicate_full : f ≡ false → stopped (told Full) (tables s rows seeds) ≡ predicate_call arity (tables s rows seeds)
-        unfolding predicate_call
-        predicate_full e = rw (eq-eqb (length rows) size.predicate_cells n, eq-eqb (length seeds) size.argument_cells k, ← h, o, ← q, e)
 
         module _ (y : f ≡ true) where
           pub predicate_work : (r : Refusal) {u : Store} → stopped (told r) u ≡ billing (work 1) s → stopped (told r) (tables u rows seeds) ≡ predicate_call arity (tables s rows seeds)
