@@ -132,6 +132,9 @@ module _ {A : Type 0} (f : A → List ℕ) (width : ℕ) (wide : (a : A) → len
         let m : width * j + width ≤ width * length l = rw (mul-suc width j) at (mul-le-mul_left width h) in
         rw e (part (width * j + k) (omega (arith, items_length l)) ∙ item_cell z l j k h g)
 
+    part_first : 0 < width → get_or t (at + width * j) 0 ≡ cell (get_or (f (get_or l j z)) 0 0)
+    part_first g = subst (λ (i : ℕ). get_or t i 0 ≡ cell (get_or (f (get_or l j z)) 0 0)) (add-zero (at + width * j)) (part_cell 0 g)
+
 -- ---- the four parts of a row: each is where it was written, since none reaches into the next
 
 module _ (cells fixed bindings guards heads : List ℕ) (b : ℕ) (few : length fixed ≤ 6) (few₁ : length bindings ≤ 128) (few₂ : length guards ≤ 128) (few₃ : length heads ≤ 32) where
