@@ -89,6 +89,10 @@ by_stops Less x y z f g h = f
 by_stops Equal x y z f g h = g
 by_stops Greater x y z f g h = h
 
+turn_stops : (t : Bool) (low : ℕ) (m : Metered Stop Meter Place) → Worked m → Worked (cond t (work 1 >> m) (pure (absent low)))
+turn_stops true low m h s = ends_then (work 1) m s (work_stops 1 s) (λ _ u _. h u) (λ e u f. f)
+turn_stops false low m h s = ends_pure (absent low) s tt
+
 seek_stops : (look : ℕ → Ordering) (turns low high : ℕ) → Worked (seek look turns low high)
 unfolding seek
 seek_stops look zero low high = λ s. ends_pure (absent low) s tt

@@ -22,6 +22,21 @@ made s = (s.current, s.bounds)
 abbrev pub begun : Progress → ℕ × ((List ℕ × List ℕ) × List ℕ)
 begun s = (s.budget.limits.width, ((s.current, s.growth), s.bounds))
 
+-- a first step that keeps what is looked at, and a second that looks at less
+alike_then : {E S L K A B : Type 0} (look : S → L) (view : S → K) (m : Metered E S A) (k : Metered E S B) → SteadyOn look m → ((s t : S) → look s ≡ look t → Alike view (k s) (k t)) →
+    (s t : S) → look s ≡ look t → Alike view ((m >> k) s) ((m >> k) t)
+unfolding ◌>>◌ ◌>>=◌ after
+alike_then {E} {S} {L} {K} {A} {B} look view m k h f s t e = go (m s) (m t) (h.same s t e)
+  where
+    none : (x : Run E S B) (z : E) (w : S) → Alike view x (stopped z w)
+    none (going b u) z w = tt
+    none (stopped y u) z w = tt
+
+    go : (x y : Run E S A) → Alike look x y → Alike view (after x (λ _. k)) (after y (λ _. k))
+    go (going a u) (going b v) q = f u v q.1
+    go (going a u) (stopped z v) q = none (k u) z v
+    go (stopped z u) y q = tt
+
 module _ (g : Given) (thresholds : List ℤ) where
   ending : SteadyOn made (in_ending (last g))
   ending = on_through _ _ _ _ (λ s t e. e) (λ s t u v _ e. e) (on_last g)

@@ -38,6 +38,16 @@ same_width : (lost : Bool) (b : Budget) → (count_lost lost b).limits.width ≡
 same_width true b = refl
 same_width false b = refl
 
+stepped_alike : (k : ℕ) (old : Value) (s t : Steps) → shown s ≡ shown t → (x y : Run Stop Meter Grown) → Agree x y → Alike shown (advanced k old s x) (advanced k old t y)
+stepped_alike k old s t e (going a m) (going b n) h = (
+  ap (λ (g : Grown). g.changed) h,
+  ap (λ (w : ℕ). (w, (put s.next k a.value, put_growth s.growth k a.growth))) (same_width (loses old.values a.value.values) _)
+      ∙ ((λ j. ((e j).0, (put (e j).1.0 k (h j).value, put_growth (e j).1.1 k (h j).growth)))
+      ∙ ap (λ (w : ℕ). (w, (put t.next k b.value, put_growth t.growth k b.growth))) (sym (same_width (loses old.values b.value.values) _))),
+)
+stepped_alike k old s t e (going a m) (stopped x n) h = tt
+stepped_alike k old s t e (stopped x m) y h = tt
+
 module _ (thresholds : List ℤ) (current candidates : List ℕ) where
   on_step : (k : ℕ) → SteadyOn shown (advance_one thresholds current candidates k)
   unfolding advance_one

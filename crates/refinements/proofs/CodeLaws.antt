@@ -209,6 +209,9 @@ numeric_integer (Bounded low high) = refl
 numeric_integer Unbounded = refl
 
 module _ (constants : List ℕ) (i j : Interval) (m : Meter) where
+  -- no entries are dropped
+  narrow_numeric : {y : Run Stop Meter Value} → y ≡ dropping 0 (refine constants (numeric i) j) m → y ≡ narrow constants j (numeric i) m
+  narrow_numeric h = yes_on _ _ m (numeric_integer i) (rw (← numeric_none i) h)
 
   pub numeric_stopped : {s : Stop} {t : Meter} → stopped s t ≡ work 1 m → stopped s t ≡ narrow constants j (numeric i) m
   numeric_stopped {s} {t} q =

@@ -115,6 +115,9 @@ module _ {I : List ℕ → Type 0} where
 
 -- a value for a slot takes the place of the old one
 module _ (w : Scene) (n slot : ℕ) (l : slot < n) where
+  settled_held : (old : Value) (rows : List ℕ) → Held w n rows → (x : Run Stop Meter Value) → Holds (Good w slot) x → Ends (λ _ t. Held w n t.rows) (λ _ _. Unit {0}) (settled slot old rows x)
+  settled_held old rows h (going v m) g = completes (held_put w n slot rows v h l g)
+  settled_held old rows h (stopped e m) g = stops tt
 
   pub keeps_replace : (f : Value → Metered Stop Meter Value) → ((v : Value) → Good w slot v → Ensures (Good w slot) (f v)) → Keeps (Held w n) (replace slot f)
   unfolding replace

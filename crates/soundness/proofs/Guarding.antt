@@ -167,6 +167,11 @@ module _ (w : Scene) (small : All (λ c. c < 2 ^ 32) w.constants) (n : ℕ) wher
 
 -- ---- `refine_operand`
 
+ends_choice : {A : Type 0} {P : A → Local → Type 0} (t : Bool) (m k : Metered Stop Local A) (s : Local) → (t ≡ true → Ends P (λ _ _. Unit {0}) (m s)) → (t ≡ false → Ends P (λ _ _. Unit {0}) (k s)) →
+    Ends P (λ _ _. Unit {0}) (cond t m k s)
+ends_choice true m k s f g = f refl
+ends_choice false m k s f g = g refl
+
 pub record Fits (w : Scene) (n k : ℕ) (s : Local) : Type 0 where
   pub held : Held w n s.produced
   pub known : Known w k s.refinements

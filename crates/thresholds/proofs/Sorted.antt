@@ -97,6 +97,12 @@ module _ {New : ℤ → Type 0} where
 
 -- ---- one step after another
 
+ending_then : (R U : Entry → Type 0) {P Q : Entry → Type 0} (f : Metered Stop Entry (Unit {0})) (x : Run Stop Entry (Unit {0})) → Ending P Q x → ((s : Entry) → P s → Ending R U (f s)) → ((s : Entry) → Q s → U s) →
+    Ending R U (after x (λ _. f))
+unfolding after
+ending_then R U f (going a s) h k l = k s h
+ending_then R U f (stopped e s) h k l = l s h
+
 ending_as : {P Q R U : Entry → Type 0} (x : Run Stop Entry (Unit {0})) → Ending P Q x → ((s : Entry) → P s → R s) → ((s : Entry) → Q s → U s) → Ending R U x
 ending_as (going a s) h k l = k s h
 ending_as (stopped e s) h k l = l s h
