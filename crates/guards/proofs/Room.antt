@@ -60,6 +60,17 @@ module _ (n id : ℕ) (i : Interval) where
       full : (p : ℕ) (t : Notes) → p ≤ n → n < length t.table / refinement_row → n ≤ p → ltb p (length t.table / refinement_row) ≡ false → ⊥
       full p t l room b d = let c : length t.table / refinement_row ≤ p = ltb-false p (length t.table / refinement_row) d in omega arith
 
+  -- where there is room, a restriction is recorded
+  pub note_puts : (t : Notes) → n < length t.table / refinement_row → Ends (Put n id t) (λ _ _. Unit {0}) (note n id i t)
+  unfolding note
+  note_puts t room =
+      ends_bind {P = λ p u. (p ≤ n) × (u.table ≡ t.table)} {Q = λ _ _. Unit {0}} _ (noted n id i) t
+      (ends_through _ _ _ _ {P = λ p _. p ≤ n} {Q = λ _ _. Unit {0}} (position 0 (refinements_of t.table n) id) t
+      (with_value (position 0 (refinements_of t.table n) id t.meter) ((position_within 0 n (refinements_of t.table n) id (omega (arith, length_from (refinement_at t.table) 0 n))).at t.meter))
+      (λ p _ h. (h, refl)) (λ _ _ _. tt))
+      (λ p u h. ends_as (noted_puts p u h.0 (rw h.1 room)) (λ k v q. record { place = q.place; interval = q.interval; counts = q.counts; few = q.few; is = q.is ∙ ap (λ (x : List ℕ). put_refinement x q.place id q.interval) h.1 }) (λ _ _ _. tt))
+      (λ _ _ _. tt)
+
   -- and in any case there is one more at most, in a table of the same size
   noted_few : (p : ℕ) (t : Notes) → Ends (λ k u. (k ≤ n + 1) × (length u.table ≡ length t.table)) (λ _ _. Unit {0}) (noted n id i p t)
   noted_few p t =

@@ -56,6 +56,19 @@ ended_marked s t room h = record {
     fits : t.count ≤ length t.table
     fits = omega (arith, h.marks.most, h.marks.size)
 
+module _ {p : Accepted} {t : input.Tables} (g : Grounded p t) (numbers : All Number t.thresholds) (few : t.header.counts.thresholds + 2 ≤ length t.thresholds) where
+  -- where the beginning of its run completes, these are the thresholds that the passes are given
+  pub begin_marked : Ends (λ _ b. Marked (take b.entry.count b.entry.table)) (λ _ _. Unit {0})
+      (begin t.seeds t.header.counts.positions (beginning (entry t.header.budget t.header.counts.thresholds t.thresholds) blank (replicate size.growth_cells 0)))
+  begin_marked =
+      ends_as
+      (begin_ends t.seeds t.header.counts.positions (seeds_good g record { one = λ _ _. none; two = λ _ _ _. none } blank room) t.header.budget.statistics.entries
+      (beginning (entry t.header.budget t.header.counts.thresholds t.thresholds) blank (replicate size.growth_cells 0)) g.reached.rises numbers few room.0 (blank_formed size.argument_cells) refl)
+      (λ _ b h. ended_marked (entry t.header.budget t.header.counts.thresholds t.thresholds) b.entry few h.1) (λ _ _ _. tt)
+    where
+      room : Room t.header.counts.positions blank
+      room = (rw (length-replicate {A = ℕ} size.argument_cells 0) (omega (arith, g.reached.counted.positions)), blank_formed size.argument_cells)
+
 -- ---- and what widening then does
 
 module _ {thresholds : List ℤ} (m : Marked thresholds) where

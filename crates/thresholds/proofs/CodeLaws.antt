@@ -6,6 +6,7 @@ use mathlib.Core.List.{List}
 use lib.IntN.{ℤ, pos, ◌+ℤ◌, ◌-ℤ◌}
 use mir.Syntax.{w32}
 use mir.Val.{SFits}
+use Rattle.thresholds.specs.Optional.{enter_some}
 use Rattle.std.proofs.Common.{Result, Ok, Err, Option, Some, None}
 use Rattle.std.specs.Option.{SomeIff}
 use Rattle.integers.specs.Order.{number?}
@@ -21,7 +22,7 @@ use Rattle.limits.proofs.Answering as answering
 use Rattle.limits.proofs.Monad.{then_stop, then_on}
 use Rattle.search.specs.Seek.{Place, found, absent}
 use Rattle.search.proofs.Complete.{absent_within}
-use Rattle.thresholds.specs.Thresholds.{Entry, entry, against, seek_number, cost, insert, settle, enter, enter_some, enter_number, around}
+use Rattle.thresholds.specs.Thresholds.{Entry, entry, against, seek_number, cost, insert, settle, enter, enter_number, around}
 
 -- ---- the ways of `enter`
 

@@ -1,6 +1,6 @@
 -- Thresholds (numeric/input.rs, `threshold` and `thresholds`): the numbers at which bounds are widened, each once, in rising order,
 -- in the first cells of a lent table.
-use Rattle.std.specs.Prelude.{ℕ, ◌+◌, ◌-◌, cond, List, ℤ, pos, ◌+ℤ◌, ◌-ℤ◌, get_or, Option, Some, None}
+use Rattle.std.specs.Prelude.{ℕ, ◌+◌, ◌-◌, cond, List, ℤ, pos, ◌+ℤ◌, ◌-ℤ◌, get_or}
 use Rattle.integers.specs.Order.{number?}
 use Rattle.integers.specs.Lists.{inserted}
 use Rattle.limits.specs.declared.Budget.{Budget}
@@ -47,11 +47,6 @@ settle v count (absent low) = paying (cost (count - low + 1)) >> insert low v
 
 unfoldable pub enter : ℤ → Metered Stop Entry (Unit {0})
 enter v s = (paying (metered (seek_number s.table s.count v)) >>= settle v s.count) s
-
--- a number, if there is one
-abbrev pub enter_some : Option ℤ → Metered Stop Entry (Unit {0})
-enter_some None = pure tt
-enter_some (Some v) = enter v
 
 -- `checked_sub`, `checked_add`: a number that needs more than 32 bits is passed over
 unfoldable pub enter_number : ℤ → Metered Stop Entry (Unit {0})
