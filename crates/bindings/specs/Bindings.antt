@@ -1,4 +1,4 @@
--- The values of a rule's slots before guards: the three three_passes of `rule` of transfer.rs over the bindings. 01: "Bindings, guards and heads
+-- The values of a rule's slots before guards: the three passes of `rule` of transfer.rs over the bindings. 01: "Bindings, guards and heads
 -- follow transfer.rs in order."
 use Rattle.std.specs.Prelude.{ℕ, List, []}
 use Rattle.limits.specs.declared.Stop.{Stop}

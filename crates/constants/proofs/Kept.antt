@@ -143,7 +143,7 @@ pub record Given (k : Key) (retained : Bool) (n : ℕ) (names cells order : List
   pub kinds : (j : ℕ) → j < n → kind_at cells' j ≡ kind_at cells j
   pub payloads : (j : ℕ) → j < n → payload_at cells' j ≡ payload_at cells j
   pub keys : (j : ℕ) → j < n → key_at names' cells' j ≡ key_at names cells j
-  -- the tables have the sized that they had
+  -- the tables have the sizes that they had
   pub names_size : length names' ≡ length names
   pub cells_size : length cells' ≡ length cells
   pub order_size : length order' ≡ length order

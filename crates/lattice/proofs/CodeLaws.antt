@@ -24,7 +24,7 @@ use Rattle.lattice.specs.Value.{Value, value, Reason}
 use Rattle.lattice.specs.Constants.{constant_at}
 use Rattle.lattice.specs.Lattice.{retained, constant, copied, same_lists, same, first_reason, join_lists, join, permitted, keep_one, sift, reduce, source, meet_lists, bare_meet, meet}
 
--- the first_reason reason that there is, by std's word
+-- the first reason that there is, by std's word
 pub first_is : (x y : Reason) {r : Reason} → r ≡ option_or x y → r ≡ first_reason x y
 first_is None y e = e
 first_is (Some w) y e = e

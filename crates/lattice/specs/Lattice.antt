@@ -56,7 +56,7 @@ same_lists (some l) (some r) = cond (eqb (length l) (length r)) (same_ids l r) (
 unfoldable pub same : Value → Value → Metered Stop Meter Bool
 same u v = work 1 >> cond (same_bound u.bound v.bound) (same_lists u.values v.values) (pure false)
 
--- the first_reason reason that there is
+-- the first reason that there is
 abbrev pub first_reason : Reason → Reason → Reason
 first_reason None r = r
 first_reason (Some w) r = Some w

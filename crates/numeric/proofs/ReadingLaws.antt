@@ -24,7 +24,7 @@ use Rattle.store.specs.declared.Phase.TheVariants.{Absent, Open, Completed, Stop
 use Rattle.store.specs.declared.Store.{Store}
 use Rattle.sizes.specs.Sizes.{rule_row}
 use Rattle.rules.specs.Read.{slots_at}
-use Rattle.numeric.specs.Reading.{Reading, given, refused, in_phase, reading, there, contexts_of, nth, bound_at, name_of}
+use Rattle.numeric.specs.Reading.{Reading, given, refused, in_phase, reading, there, contexts_of, nth, name_of}
 use Rattle.numeric.specs.Answers.{readable, reads}
 use Rattle.std.proofs.Common.{Result, Ok, Err}
 use Rattle.std.specs.Prelude.{IsErrAnd}
@@ -162,11 +162,14 @@ in_table rules r k slots p z h = (go (ltb r 256) refl, omega arith)
         let n : get_or rules (rule_row * r) 0 ≡ 0 = get_or-eq_default rules 0 (omega (arith, whole)) in
         absurd (omega (arith, n))
 
--- ---- names, a bound at its bound_place
+pub slots_long : (rules slots : ℕ) (p : Phase) {u : Unit {0}} → readable (eqb rules size.rule_cells && eqb slots size.bounds_cells) p ≡ Ok u → slots ≡ size.bounds_cells
+slots_long rules slots p z = eqb-true slots size.bounds_cells (and_right (eqb rules size.rule_cells) _ (sized_true _ p z))
+
+-- ---- names, a bound at its place
 
 pub no_name : (names constants : List ℕ) (k : ℕ) {n : ℕ} → n ≡ kind_at constants k → (n ≡ 2 → ⊥) → [] ≡ name_of names constants k
 no_name names constants k h o = rw (ne_eqb (kind_at constants k) 2 (λ z. o (h ∙ z))) refl
 
-pub place_fits : (r k : ℕ) (after : Bool) {n : ℕ} → n ≡ bound_place r k after → r < 256 → k < 16 → n < 32768
+pub place_fits : (r k : ℕ) (after : Bool) {n : ℕ} → n ≡ bound_place r k after → r < size.rules → k < size.slots → n < size.bounds_cells
 place_fits r k true h p q = omega arith
 place_fits r k false h p q = omega arith

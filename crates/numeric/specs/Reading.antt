@@ -7,7 +7,7 @@ use Rattle.limits.specs.Refusal.{Told, told}
 use Rattle.interval.specs.declared.Bound.{Bound}
 use Rattle.cells.specs.Cells.{of_cell}
 use Rattle.lattice.specs.Value.{Value}
-use Rattle.rows.specs.Row.{integrality_of, interval_of, value_at}
+use Rattle.rows.specs.Row.{bound_of, value_at}
 use Rattle.keys.specs.Key.{name_at, kind_at, payload_at}
 use Rattle.limits.specs.Context.{Context}
 use Rattle.store.specs.declared.Phase.{Phase}
@@ -61,14 +61,11 @@ context_reading s records a k = reading (eqb (length records) size.record_cells)
 
 -- ---- the slots of a rule
 
-abbrev pub bound_at : List ℕ → ℕ → Bound
-bound_at cells at = record { integrality = integrality_of (get_or cells at 0); interval = interval_of (get_or cells (at + 1) 0) (of_cell (get_or cells (at + 2) 0)) (of_cell (get_or cells (at + 3) 0)) }
-
 -- before guards, or after them
 unfoldable pub slot_reading : Store → List ℕ → List ℕ → ℕ → ℕ → Bool → Reading Bound
 slot_reading s rules slots r k after =
     reading (eqb (length rules) size.rule_cells && eqb (length slots) size.bounds_cells) s
-    (cond (ltb r s.counts.rules) (cond (ltb k (slots_at rules r)) (given (bound_at slots (bound_place r k after))) (refused (told MissingSlot))) (refused (told Missing)))
+    (cond (ltb r s.counts.rules) (cond (ltb k (slots_at rules r)) (given (bound_of slots (bound_place r k after))) (refused (told MissingSlot))) (refused (told Missing)))
 
 -- ---- constants
 

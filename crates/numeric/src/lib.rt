@@ -5,7 +5,7 @@
 ghost use Rattle.std.specs.Prelude.{◌≡◌, ◌&&◌, ◌*◌, ◌<◌, ◌≤◌, eqb, length, get_or};
 ghost use Rattle.sizes.specs.Sizes as size;
 ghost use Rattle.results.specs.Result.{bound_place};
-ghost use Rattle.numeric.specs.Reading.{contexts_of, nth, bound_at, kind_of, name_of, argument_reading, context_count_reading, context_reading, slot_reading, key_reading, name_reading, status_reading};
+ghost use Rattle.numeric.specs.Reading.{contexts_of, nth, kind_of, name_of, argument_reading, context_count_reading, context_reading, slot_reading, key_reading, name_reading, status_reading};
 ghost use Rattle.lattice.specs.Value.{value_of};
 ghost use Rattle.numeric.specs.Answers.{readable, reads, kind, status};
 
@@ -111,21 +111,6 @@ pub fn context(store: &Store, records: &[u32], argument: u64, k: u64) -> Result<
     find_context(records, store.counts.provenance.min(RECORDS), argument, k)
 }
 
-// The bound that stands at a place of the table of slots.
-fn bound_at(cells: &[u32], at: usize) -> Bound
-    requires { at < size.bounds_cells }
-    ensures { result ≡ bound_at cells.now at }
-{
-    Bound {
-        integrality: rows::integrality_of(cells::cell_at(cells, at)),
-        interval: rows::interval_of(
-            cells::cell_at(cells, at + 1),
-            cells::cell_at(cells, at + 2),
-            cells::cell_at(cells, at + 3),
-        ),
-    }
-}
-
 // Where the bound of a slot stands, before guards or after them.
 fn bound_place(rule: usize, slot: usize, after: bool) -> usize
     requires { (rule < size.rules) × (slot < size.slots) }
@@ -160,7 +145,8 @@ pub fn slot(
     if rules::slots_at(rules, rule as usize) <= slot {
         return Err(Refusal::MissingSlot);
     }
-    Ok(bound_at(slots, bound_place(rule as usize, slot as usize, after)))
+    let place = bound_place(rule as usize, slot as usize, after);
+    Ok(rows::read_bound(slots, place))
 }
 
 // The key of a constant, but for the bytes of a name.

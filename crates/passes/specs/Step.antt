@@ -27,11 +27,11 @@ grown v g c = record { value = v; growth = g; changed = c }
 abbrev pub within : Interval → Value → Value
 within i v = value (record { integrality = v.bound.integrality; interval = i }) v.values v.widening
 
--- a new value with_change with the old one, and dropped where this is stopped
+-- a new value compared with the old one, and dropped where this is stopped
 unfoldable pub with_change : Value → Value → Growth → Metered Stop Meter Grown
 with_change old v g = holding (entries_of v) (same old v) >>= (λ s. pure (grown v g (not s)))
 
--- a joined value widened and with_change
+-- a joined value widened and compared
 unfoldable pub widen_value : List ℤ → Value → Value → Growth → Metered Stop Meter Grown
 widen_value thresholds old v g = do
   w ← holding (entries_of v) (widen thresholds old.bound.interval v.bound.interval g)

@@ -199,7 +199,7 @@ pub record Accepted (nodes : List ℕ) (r : Rule) (t : Tables) (id : ℕ) (u : T
   pub size : length u.rules ≡ length t.rules
   -- there are at most 16 records more
   pub recorded : Longer 16 t.header.counts.provenance t.records u.header.counts.provenance u.records
-  -- there is one rule more. All else of the header is as before, but for what the budget has billing
+  -- there is one rule more. All else of the header is as before, but for what the budget has charged
   pub budget : Budget
   pub spent : Spent t.header.budget budget
   pub is : u.header ≡ with_rules (t.header.counts.rules + 1) (with_provenance u.header.counts.provenance (with_budget budget t.header))
@@ -209,14 +209,14 @@ pub record Refused (t : Tables) (e : Told) (u : Tables) : Type 0 where
   pub rules : u.rules ≡ t.rules
   -- heads that passed may have left records, at most 16
   pub recorded : Longer 16 t.header.counts.provenance t.records u.header.counts.provenance u.records
-  -- all else of the header, the count of rules too, is as before, but for what the budget has billing
+  -- all else of the header, the count of rules too, is as before, but for what the budget has charged
   pub budget : Budget
   pub spent : Spent t.header.budget budget
   pub is : u.header ≡ with_provenance u.header.counts.provenance (with_budget budget t.header)
   -- refusals 1 and 2 leave everything as it was
   pub early : e.number ≤ 2 → u ≡ t
 
--- refused before anything is billing
+-- refused before anything is charged
 refused_whole : (t : Tables) (e : Refusal) → Refused t (told e) t
 refused_whole t e = record {
   rules = refl;

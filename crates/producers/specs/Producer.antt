@@ -39,7 +39,7 @@ scope n e s = record { nodes = n; expressions = e; slots = s }
 abbrev pub unit : Metered Told Meter (Unit {0})
 unit = stopping (λ e. told (Limit e)) (inner.work 1)
 
--- a unit before each of a list
+-- a step before each of a list
 unfoldable pub each : {A : Type 0} → (A → Metered Told Meter (Unit {0})) → List A → Metered Told Meter (Unit {0})
 each f [] = pure tt
 each f (a ∷ l) = unit >> f a >> each f l

@@ -77,7 +77,7 @@ module _ (constants : List ℕ) (i : Interval) (v : Value) (m : Meter) {t : Bool
   pub narrow_no : t ≡ false → going v m ≡ narrow constants i v m
   narrow_no p = no_on _ _ m (sym ask ∙ p) (pure_is v m)
 
--- ---- the place_or_end of the first
+-- ---- the place of the first
 
 module _ (g : ℕ → Refinement) (id count : ℕ) (m : Meter) where
   abbrev pub Seeking : ℕ → Meter → Type 0

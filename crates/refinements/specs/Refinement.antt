@@ -51,7 +51,7 @@ restrict constants (r ∷ rs) id v = holding (entries_of v) (work 1) >> cond (eq
 
 -- ---- the middle of `refine_operand`: a restriction is recorded, or meets the one that is
 
--- the place_or_end of the first refinement of an expression, or the end; k have been looked at
+-- the place of the first refinement of an expression, or the end; k have been looked at
 unfoldable pub position : ℕ → List Refinement → ℕ → Metered Stop Meter ℕ
 position k [] id = pure k
 position k (r ∷ rs) id = work 1 >> cond (eqb r.expression id) (pure k) (position (k + 1) rs id)
@@ -68,7 +68,7 @@ pub record Notes : Type 0 where
 abbrev pub notes : Meter → List ℕ → Notes
 notes m t = record { meter = m; table = t }
 
--- at place_or_end k of n: how many there are then, and the table
+-- at place k of n: how many there are then, and the table
 abbrev pub noted : ℕ → ℕ → Interval → ℕ → Metered Stop Notes ℕ
 noted n id i k s =
     cond (ltb k n) (going n (notes s.meter (put_refinement s.table k id (meet_of (refinement_at s.table k).restriction i))))

@@ -22,7 +22,7 @@ use Rattle.rounds.specs.Round.{Given, Standing, standing, charging, each_rule, c
 abbrev pub bound_place : ℕ → ℕ → Bool → ℕ
 bound_place id slot after = size.bounds_row * id + size.slot_row * slot + cond after size.bound_row 0
 
--- a rule or a slot that the table has no bound_place for is not written
+-- a rule or a slot that the table has no place for is not written
 unfoldable pub put_bound : List ℕ → ℕ → ℕ → Bool → Bound → List ℕ
 put_bound cells id slot after b = cond (ltb id size.rules && ltb slot size.slots) (sets cells (bound_place id slot after) (bound_cells b)) cells
 
@@ -51,7 +51,7 @@ close i rules count positions current = each_rule rules (bound i rules current) 
 abbrev pub in_course : {A : Type 0} → Metered Stop Course A → Metered Stop Standing A
 in_course = zoom (λ s. course s.budget s.context) (λ c s. standing c.budget c.context s.rows)
 
--- new values take the bound_place of the current ones, which are dropped
+-- new values take the place of the current ones, which are dropped
 abbrev pub taking : ℕ → List ℕ → Metered Stop Standing (Unit {0})
 taking n new s = going tt (standing (released (total s.rows n) s.budget) s.context (moved new n s.rows))
 

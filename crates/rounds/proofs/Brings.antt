@@ -1,4 +1,4 @@
--- What a after_unit does to a table while entries are counted: beside any others, e, those of the table (`size`) are live before it and after it,
+-- What a step does to a table while entries are counted: beside any others, e, those of the table (`size`) are live before it and after it,
 -- whichever way it ends, and where it completes it brings F of the table to G. Live entries and what a round gives are both shown with it.
 use Prim.Native.Nat.{ℕ, zero, suc, ◌+◌, ◌*◌, ◌≤◌, ◌<◌}
 use native.Mathlib.Omega.{arith}

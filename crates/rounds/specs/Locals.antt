@@ -23,7 +23,7 @@ locals d p r n = record { domains = d; produced = p; refinements = r; recorded =
 unfoldable pub fill : Input → List ℕ → ℕ → List ℕ → Metered Stop Frame ℕ
 fill i rules id arguments = zoom (λ s. s.meter) (λ m s. frame m s.domains s.produced s.refinements) (work 1) >> rule i rules id arguments
 
--- in blank_frame tables
+-- in blank tables
 abbrev pub blank_frame : Meter → Frame
 blank_frame m = frame m (replicate size.slot_cells 0) (replicate size.slot_cells 0) (replicate size.refinement_cells 0)
 

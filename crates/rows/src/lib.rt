@@ -71,8 +71,8 @@ fn ids_at(cells: &[u32], at: usize) -> [u16; sizes::WIDTH]
     ids
 }
 
-// The bound of the row that begins at `at`.
-fn read_bound(cells: &[u32], at: usize) -> Bound
+// The bound of the row that begins at `at`, or of the four cells there that tell one.
+pub fn read_bound(cells: &[u32], at: usize) -> Bound
     requires { at ≤ length cells.now }
     ensures { result ≡ bound_of cells.now at }
 {

@@ -60,7 +60,7 @@ pub record Beside (records marks : ℕ) (s s' : Store) : Type 0 where
   pub context : s'.context ≡ s.context
   pub phase : s'.phase ≡ s.phase
   pub limits : s'.budget.limits ≡ s.budget.limits
-  -- what was billing for predicates, positions and rounds
+  -- what was charged for predicates, positions and rounds
   pub charged_predicates : s'.budget.statistics.predicates ≡ s.budget.statistics.predicates
   pub charged_positions : s'.budget.statistics.positions ≡ s.budget.statistics.positions
   pub charged_rounds : s'.budget.statistics.rounds ≡ s.budget.statistics.rounds

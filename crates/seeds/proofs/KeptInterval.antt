@@ -208,7 +208,7 @@ module _ (constants : List ℕ) (a : ℕ) (low high : ℤ) (t : IntervalTables) 
       let q = quiet_bill t.header (same_bill t.header.budget) in
       stops record { same = refl; quiet = six (wider q); noted = inl (refl, refl); fits = λ l. l; marked = unmarked t.header q.beside; marks_fit = λ l. l; whole = λ _. refl }
 
-  -- only work was billing
+  -- only work was charged
   late_interval : (x : Told) (b : Budget) → Spent t.header.budget b → 3 ≤ x.number → IntervalRefused a low high x t (interval_tables (with_budget b t.header) t.seeds t.records t.thresholds)
   late_interval x b paid l =
       let q = quiet_bill t.header (spent_bill paid) in

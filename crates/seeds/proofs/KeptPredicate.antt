@@ -57,7 +57,7 @@ pub record PredicateTaken (constants : List ℕ) (arity id : ℕ) (t t' : store.
   pub rows : t'.rows ≡ sets t.rows (2 * t.header.counts.predicates) (t.header.counts.positions ∷ arity ∷ [])
   pub few : t.header.counts.predicates < 64
   pub most : t.header.counts.positions + arity ≤ 256
-  -- the header: one predicate and its arguments more, which were billing, with their work
+  -- the header: one predicate and its arguments more, which were charged, with their work
   pub header : t'.header ≡ with_predicate arity (with_budget (billed Work arity (billed Positions arity (billed Predicates 1 (billed Work 1 t.header.budget)))) t.header)
 
 -- refused: nothing is changed but for one unit of work, and with number 1 or 2 not even that

@@ -18,19 +18,19 @@ pub const THRESHOLDS: usize = 4096;
 
 pub const RECORDS: usize = 1024;
 
-// "`constant` and `seed_interval` need at most 4,088 standing"; a run enters two more
+// "`constant` and `seed_interval` need at most 4,088 standing"; a run enters two more.
 pub const THRESHOLDS_BEFORE_CALL: usize = 4088;
 
 pub const THRESHOLDS_BEFORE_RUN: usize = THRESHOLDS - 2;
 
-// "seeds and rules with a context need at most 1,008 standing"
+// "seeds and rules with a context need at most 1,008 standing".
 pub const RECORDS_BEFORE_CALL: usize = 1008;
 
 // 01, refusal 1: "a name over 64 bytes [..], width over 16, nesting over 64 [..], or a rule over 16 slots, 32 bindings, 32 guards or 16 heads".
 
 pub const NAME: usize = 64;
 
-// the ids of a list
+// The ids of a list.
 pub const WIDTH: usize = 16;
 
 pub const NESTING: usize = 64;
@@ -43,7 +43,7 @@ pub const GUARDS: usize = 32;
 
 pub const HEADS: usize = 16;
 
-// what guards record of expressions: two for each
+// What guards record of expressions: two for each.
 pub const REFINEMENTS: usize = 2 * GUARDS;
 
 // The row of a value: integrality, the interval's case and two ends, whether there is a list, its length, the reason, the ids, one unused.
@@ -86,25 +86,25 @@ pub const RULE_ROW: usize = RULE_HEADS + 2 * HEADS;
 
 // The other rows.
 
-// a predicate's first argument and arity
+// A predicate's first argument and arity.
 pub const PREDICATE_ROW: usize = 2;
 
-// a constant's kind and payload
+// A constant's kind and payload.
 pub const CONSTANT_ROW: usize = 2;
 
-// kind, operator, left, right and nesting of an expression
+// Kind, operator, left, right and nesting of an expression.
 pub const NODE_ROW: usize = 5;
 
-// an argument and a context
+// An argument and a context.
 pub const RECORD_ROW: usize = 2;
 
-// how often the two sides of an argument's interval have grown
+// How often the two sides of an argument's interval have grown.
 pub const GROWTH_ROW: usize = 2;
 
-// an expression's id, the case of an interval and its two ends
+// An expression's id, the case of an interval and its two ends.
 pub const REFINEMENT_ROW: usize = 4;
 
-// the first four cells of a value; of a slot before guards and after them; of all slots of a rule
+// The first four cells of a value; of a slot before guards and after them; of all slots of a rule.
 pub const BOUND_ROW: usize = 4;
 
 pub const SLOT_ROW: usize = 2 * BOUND_ROW;
@@ -125,15 +125,15 @@ pub const RULE_CELLS: usize = RULE_ROW * RULES;
 
 pub const RECORD_CELLS: usize = RECORD_ROW * RECORDS;
 
-// a value for each argument: seeds, current values, results
+// A value for each argument: seeds, current values, results.
 pub const ARGUMENT_CELLS: usize = VALUE_ROW * POSITIONS;
 
 pub const GROWTH_CELLS: usize = GROWTH_ROW * POSITIONS;
 
-// a value for each slot of one rule
+// A value for each slot of one rule.
 pub const SLOT_CELLS: usize = VALUE_ROW * SLOTS;
 
 pub const REFINEMENT_CELLS: usize = REFINEMENT_ROW * REFINEMENTS;
 
-// the bounds of all rules' slots
+// The bounds of all rules' slots.
 pub const BOUNDS_CELLS: usize = BOUNDS_ROW * RULES;

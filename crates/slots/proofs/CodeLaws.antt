@@ -58,7 +58,7 @@ pub owned : (constants : List ℕ) (slot : ℕ) (v : Value) (s : Slots) (r : Res
 unfolding meet_owned
 owned constants slot v s r t rows h live q = rw (q, live) (answered_through (λ u. u) (λ _ u. fewer (entries_of v) u) (meet_into constants slot v) s r (slots t rows) h)
 
--- ---- a unit of work, and then the after_unit
+-- ---- a unit of work, and then the step
 
 module _ (m : Metered Stop Slots (Unit {0})) (s : Meter) (rows : List ℕ) where
   pub step_stop : {e : Stop} {t : Meter} → stopped e t ≡ work 1 s → stopped e (slots t rows) ≡ after_unit m (slots s rows)

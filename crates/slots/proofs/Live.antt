@@ -1,5 +1,5 @@
--- Live entries of a table of slots. Beside any others, e, the entries of its rows are live, before a after_unit and after it, whichever way it ends;
--- whoever lends the table drops them where the after_unit is stopped.
+-- Live entries of a table of slots. Beside any others, e, the entries of its rows are live, before a step and after it, whichever way it ends;
+-- whoever lends the table drops them where the step is stopped.
 use Prim.Native.Nat.{ℕ, zero, suc, ◌+◌, ◌*◌, ◌^◌, ◌≤◌, ◌<◌}
 use native.Mathlib.Omega.{arith}
 use native.Mathlib.Nat.{add-zero}

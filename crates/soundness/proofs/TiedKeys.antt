@@ -1,4 +1,4 @@
--- What the tables of a store hold of the accepted calls grounds a run, and the calls of `constant` and `expression` keep_key it so.
+-- What the tables of a store hold of the accepted calls grounds a run, and the calls of `constant` and `expression` keep it so.
 use Rattle.sizes.specs.Sizes as size
 use Prim.Native.Nat.{ℕ, ◌+◌, ◌*◌, ◌≤◌, ◌<◌, ◌^◌}
 use native.Mathlib.Omega.{arith}

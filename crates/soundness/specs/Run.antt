@@ -14,7 +14,7 @@ use Rattle.numeric.specs.Step as calls
 use Rattle.soundness.specs.Plain.{Tree, nothing, Opaque, Choices, PlainBinding, PlainGuard, PlainHead, PlainState, Fires, into, HeadsGive}
 use Rattle.soundness.specs.Tied.{tree_of, plain_binding, plain_guard, plain_head}
 
--- ---- "An id stands for what was given to the stands_for accepted call of its kind that answered it."
+-- ---- "An id stands for what was given to the first accepted call of its kind that answered it."
 
 pub record Named (A : Type 0) : Type 0 where
   pub id : ℕ
@@ -122,7 +122,7 @@ heard_from p (e ∷ es) = heard_from (learned p e.call e.answer) es
 abbrev pub heard : List Event → Accepted
 heard es = heard_from (accepted [] [] [] []) es
 
--- ---- "The state is a set of values for each argument, at stands_for its seeds"
+-- ---- "The state is a set of values for each argument, at first its seeds"
 
 abbrev pub SeedGives : Seed → ℕ → Key → Type 0
 SeedGives (one a k) b v = (b ≡ a) × (v ≡ k)

@@ -95,7 +95,7 @@ spends_metered {A} {m} h = record { at = λ b. go b (m (meter_of b)) (h.at b.sta
 
 -- ---- headers
 
--- s' is s with a budget that has billing
+-- s' is s with a budget that has charged
 pub record Charging (s s' : Store) : Type 0 where
   pub budget : Budget
   pub spent : Spent s.budget budget
@@ -133,7 +133,7 @@ pays {A} {m} h s = ends_as (ends_both (charged_left h s) refusal) (λ _ s' p. p.
 
 -- ---- thresholds
 
--- what entering numbers leaves: a budget that has billing, and another count of thresholds
+-- what entering numbers leaves: a budget that has charged, and another count of thresholds
 pub record Marking (t t' : Marks) : Type 0 where
   pub budget : Budget
   pub spent : Spent t.header.budget budget

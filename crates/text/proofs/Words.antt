@@ -55,7 +55,7 @@ puts_two {u} {v} p q r s = puts_then p (puts_then q (puts_then r (puts_same (sym
 
 -- ---- an interval and a bound
 
--- two end_words, as locals of 32 bits have them
+-- two ends, as locals of 32 bits have them
 pub puts_ends : (low high : ℤ) {a b c d e : ℕ} {l m n o p : List ℕ} → SFits w32 low → SFits w32 high →
     Puts (32 ∷ []) a l b m → Puts (integer (to_z w32 (of_z w32 low))) b m c n → Puts (32 ∷ []) c n d o → Puts (integer (to_z w32 (of_z w32 high))) d o e p →
     Puts (spaced_words (integer low ∷ integer high ∷ [])) a l e p

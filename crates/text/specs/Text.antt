@@ -31,7 +31,7 @@ abbrev pub letter : Integrality → List ℕ
 letter Integer = 73 ∷ []
 letter Mixed = 77 ∷ []
 
--- "An empty interval prints `e e`; Unbounded prints its two end_words."
+-- "An empty interval prints `e e`; Unbounded prints its two ends."
 abbrev pub end_words : Interval → List (List ℕ)
 end_words Bottom = (101 ∷ []) ∷ (101 ∷ []) ∷ []
 end_words (Bounded low high) = integer low ∷ integer high ∷ []

@@ -1,8 +1,8 @@
 //! Thresholds (`threshold` and `thresholds` of numeric/input.rs): the numbers at which bounds are widened, in a lent table, sorted.
 #![tactic(auto)]
 
-ghost use Rattle.thresholds.specs.Optional.{enter_some};
 ghost use Rattle.std.specs.Prelude.{◌≡◌, ◌+◌, ◌≤◌, ◌<◌, length};
+ghost use Rattle.thresholds.specs.Optional.{enter_some};
 ghost use Rattle.limits.specs.Metered.{answered};
 ghost use Rattle.thresholds.specs.Thresholds.{entry, seek_number, cost, enter, around};
 

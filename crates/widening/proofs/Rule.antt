@@ -202,7 +202,7 @@ high_becomes : (thresholds : List ℤ) (old high : ℤ) (n : ℕ) → Ensures (B
 unfolding widen_high
 high_becomes thresholds old high n = sided upper thresholds old high n (le_z high old) (λ e. le_yes high old e) (λ e. le_no high old e) (above_reaches thresholds high)
 
--- a side does not both grow_side and stay
+-- a side does not both grow and stay
 not_both : {P : Type 0} (s : Which) (old new : ℤ) → Grows s old new → Stays s old new → P
 not_both lower old new g h = absurd (omega arith)
 not_both upper old new g h = absurd (omega arith)

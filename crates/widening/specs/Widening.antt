@@ -36,7 +36,7 @@ below thresholds low = nearest (λ t. le_z t low) low (reverse thresholds)
 unfoldable pub above : List ℤ → ℤ → Metered Stop Meter ℤ
 above thresholds high = nearest (λ t. le_z high t) high thresholds
 
--- 01: "A side that grows is counted the first two times; later it moves to the nearest threshold at or beyond it." `stays` where it does not grow_side
+-- 01: "A side that grows is counted the first two times; later it moves to the nearest threshold at or beyond it." `stays` where it does not grow
 abbrev pub grow_side : Bool → ℤ → ℕ → Metered Stop Meter ℤ → Metered Stop Meter Side
 grow_side stays end grown search = cond stays (pure (side end grown)) (cond (ltb grown 2) (pure (side end (grown + 1))) (search >>= (λ z. pure (side z grown))))
 

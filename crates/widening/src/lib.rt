@@ -1,8 +1,8 @@
 //! Widening (`widen` of engine.rs): an interval that grows is moved outward to thresholds, each side by its own count.
 #![tactic(auto)]
 
-ghost use Rattle.widening.specs.Places.{first_place};
 ghost use Rattle.std.specs.Prelude.{◌≡◌};
+ghost use Rattle.widening.specs.Places.{first_place};
 ghost use Rattle.std.specs.Int.Signed.{le_z};
 ghost use Rattle.limits.specs.Metered.{answered};
 ghost use Rattle.widening.specs.Widening.{below, above, widen_low, widen_high, with_ends, widen, growth_at, put_growth, no_growth};

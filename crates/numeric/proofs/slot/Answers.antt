@@ -1,8 +1,9 @@
 -- `numeric::slot` meets its contract.
+use native.Mathlib.Omega.{arith}
 use mathlib.Core.Path.{sym, ◌∙◌}
 use lib.ListN.{length}
 use Rattle.numeric.specs.Reading.{slot_reading}
-use Rattle.numeric.proofs.ReadingLaws.{in_table, place_fits, turned_down, not_read}
+use Rattle.numeric.proofs.ReadingLaws.{in_table, slots_long, place_fits, turned_down, not_read}
 use Rattle.numeric.proofs.slot.Goals as goal
 
 pub returns-in_err-readable : goal.returns-in_err-readable
@@ -12,7 +13,7 @@ returns-in_err-readable c = not_read _ _ _ c.from_residual.ensures.1 (turned_dow
 pub bound_place-requires : goal.bound_place-requires
 bound_place-requires c = in_table c.args.rules.now c.args.rule c.args.slot (length c.args.slots.now) c.args.store.now.phase (sym (rw c.is_slots_sized.ensures at c.readable.ensures) ∙ c.in_ok-readable.was) (rw c.slots_at.ensures at c.if-slots_at-slot.false)
 
-pub bound_at-requires : goal.bound_at-requires
-bound_at-requires c =
+pub read_bound-requires : goal.read_bound-requires
+read_bound-requires c =
     let t = in_table c.args.rules.now c.args.rule c.args.slot (length c.args.slots.now) c.args.store.now.phase (sym (rw c.is_slots_sized.ensures at c.readable.ensures) ∙ c.in_ok-readable.was) (rw c.slots_at.ensures at c.if-slots_at-slot.false) in
-    place_fits c.args.rule c.args.slot c.args.after c.bound_place.ensures t.0 t.1
+    omega (arith, place_fits c.args.rule c.args.slot c.args.after c.bound_place-place.ensures t.0 t.1, slots_long (length c.args.rules.now) (length c.args.slots.now) c.args.store.now.phase (sym (rw c.is_slots_sized.ensures at c.readable.ensures) ∙ c.in_ok-readable.was))
