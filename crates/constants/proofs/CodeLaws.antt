@@ -151,7 +151,7 @@ pub record Passed (k : Key) (s : Store) (n c o : List ℕ) (t : List ℤ) : Type
   pub opened : admits s.phase ≡ true
   pub room : spacious s.counts ≡ true
 
-pub passed : (k : Key) (s : Store) (n c o : List ℕ) (t : List ℤ) {sized opened room : Bool} {text : List ℕ} → sized ≡ sized (length n) (length c) (length o) (length t) → sized ≡ true →
+pub passed : (k : Key) (s : Store) (n c o : List ℕ) (t : List ℤ) {measured opened room : Bool} {text : List ℕ} → measured ≡ sized (length n) (length c) (length o) (length t) → measured ≡ true →
     text ≡ bytes_of k → length text ≤ 64 → opened ≡ admits s.phase → opened ≡ true → room ≡ spacious s.counts → room ≡ true → Passed k s n c o t
 passed k s n c o t h₁ e₁ h₂ e₂ h₃ e₃ h₄ e₄ = record { sized = sym h₁ ∙ e₁; short = le-leb (length (bytes_of k)) 64 (rw h₂ at e₂); opened = sym h₃ ∙ e₃; room = sym h₄ ∙ e₄ }
 
