@@ -50,8 +50,7 @@ fn seed(
 
 // What a run begins with: the ends are thresholds, and the seeds are the current values. The count is that of the thresholds.
 fn begin(
-    seeds: &[u32],
-    positions: usize,
+    given: &Given,
     thresholds: &mut [i32],
     count: &mut usize,
     current: &mut [u32],
@@ -59,10 +58,10 @@ fn begin(
     budget: &mut Budget,
 ) -> Result<(), Stop>
     requires { count.old + 2 ≤ length thresholds.old }
-    ensures { answered result (beginning (entry budget.new count.new thresholds.new) current.new growth.new) ≡ begin seeds.now positions (beginning (entry budget.old count.old thresholds.old) current.old growth.old) }
+    ensures { answered result (beginning (entry budget.new count.new thresholds.new) current.new growth.new) ≡ begin given.now.seeds.now given.now.positions (beginning (entry budget.old count.old thresholds.old) current.old growth.old) }
 {
     enter_ends(thresholds, count, budget)?;
-    seed(seeds, positions, current, growth, budget)
+    seed(given.seeds, given.positions, current, growth, budget)
 }
 
 // The ascent, then the last round and what the result is charged for.
@@ -119,7 +118,7 @@ fn move_cells(from: &[u32], to: &mut [u32], count: usize)
 // the result tables stay.
 fn conclude(
     store: &mut Store,
-    seeds: &[u32],
+    given: &Given,
     current: &[u32],
     bounds: &[u32],
     arguments: &mut [u32],
@@ -129,7 +128,7 @@ fn conclude(
     course: Course,
 )
     requires { store.old.counts.rules ≤ size.rules }
-    ensures { (marks before : List ℤ) (growth : List ℕ) → tables store.new marks arguments.new slots.new ≡ concluded seeds.now thresholds marks (tables store.old before arguments.old slots.old) (answered ran (progress course.budget course.context current.now growth bounds.now)) }
+    ensures { (marks before : List ℤ) (growth : List ℕ) → tables store.new marks arguments.new slots.new ≡ concluded given.now.seeds.now thresholds marks (tables store.old before arguments.old slots.old) (answered ran (progress course.budget course.context current.now growth bounds.now)) }
 {
     let positions = store.counts.positions;
     let mut budget = course.budget;
@@ -146,7 +145,7 @@ fn conclude(
         Ok(()) => {
             rows::move_rows(current, arguments, positions);
             move_cells(bounds, slots, sizes::BOUNDS_ROW * store.counts.rules);
-            slots::without_rows(seeds, positions, &mut budget);
+            slots::without_rows(given.seeds, positions, &mut budget);
             end(store, thresholds, Phase::Completed, budget);
         }
     }
@@ -202,8 +201,7 @@ fn run_open(
     let mut growth = [0u32; sizes::GROWTH_CELLS];
     let mut bounds = [0u32; sizes::BOUNDS_CELLS];
     let begun = begin(
-        given.seeds,
-        given.positions,
+        given,
         thresholds,
         &mut marks,
         &mut current,
@@ -223,15 +221,7 @@ fn run_open(
         &mut course,
     );
     conclude(
-        store,
-        given.seeds,
-        &current,
-        &bounds,
-        arguments,
-        slots,
-        ran,
-        marks,
-        course,
+        store, given, &current, &bounds, arguments, slots, ran, marks, course,
     );
 }
 
