@@ -118,7 +118,7 @@ impl Design {
 
     // The five lines. The store has one argument, and one rule with one slot.
     fn report(&self, output: Stdout) {
-        let mut line = [0; report::LINE];
+        let mut line = [0; sizes::LINE];
         let status = report::status_line(&self.store, &mut line);
         tell(output, status, &line);
         let argument = report::argument_line(&self.store, &self.arguments, &mut line, 0);
@@ -148,7 +148,7 @@ fn send(output: Stdout, line: &[u8], len: usize) {
 }
 
 fn complain(output: Stdout, refusal: Refusal) {
-    let mut line = [0; report::LINE];
+    let mut line = [0; sizes::LINE];
     if let Ok(len) = report::refusal_line(&mut line, refusal) {
         send(output, &line, len);
     }

@@ -175,7 +175,7 @@ impl Session {
 
     // The lines of a run that has ended.
     fn report(&mut self) {
-        let mut line = [0; report::LINE];
+        let mut line = [0; sizes::LINE];
         let written = report::status_line(&self.store, &mut line);
         self.writer.line(written, &line);
         if self.store.phase == Phase::Completed {
@@ -203,7 +203,7 @@ impl Session {
     }
 
     fn argument_line(&mut self, argument: u64) {
-        let mut line = [0; report::LINE];
+        let mut line = [0; sizes::LINE];
         let written = report::argument_line(
             &self.store,
             &self.tables.arguments,
@@ -221,7 +221,7 @@ impl Session {
     }
 
     fn slot_line(&mut self, rule: u64, slot: u64, after: bool) {
-        let mut line = [0; report::LINE];
+        let mut line = [0; sizes::LINE];
         let tables = &self.tables;
         let written = report::slot_line(
             &self.store,

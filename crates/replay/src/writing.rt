@@ -52,9 +52,9 @@ impl Writer {
     }
 
     pub fn refused(&mut self, refusal: Refusal) {
-        let mut line = [0; report::LINE];
+        let mut line = [0; sizes::LINE];
         if let Ok(len) = report::refusal_line(&mut line, refusal) {
-            self.put(&line[..len.min(report::LINE)]);
+            self.put(&line[..len.min(sizes::LINE)]);
         }
     }
 

@@ -1,4 +1,5 @@
 -- The lines of the report from the words put into them, over plain variables, and what a lent buffer then holds.
+use Rattle.sizes.specs.Sizes as size
 use Prim.Native.Nat.{ℕ, ◌+◌, ◌≤◌}
 use native.Mathlib.Omega.{arith}
 use mathlib.Core.Path.{◌≡◌, refl, sym, ◌∙◌}
@@ -74,16 +75,16 @@ no_values MissingSlot h = refl
 -- ---- in the lent buffer
 
 module _ (buffer : List ℕ) (r : Reading (List ℕ)) where
-  pub lined_shape : (length buffer ≡ 256 → ⊥) → written (Err Shape) buffer ≡ on_buffer buffer r
-  lined_shape h = rw (ne_eqb (length buffer) 256 h)
+  pub lined_shape : (length buffer ≡ size.line → ⊥) → written (Err Shape) buffer ≡ on_buffer buffer r
+  lined_shape h = rw (ne_eqb (length buffer) size.line h)
 
-  pub lined_refused : (e : Refusal) → length buffer ≡ 256 → r ≡ refused (told e) → written (Err e) buffer ≡ on_buffer buffer r
-  lined_refused e h g = rw (eq-eqb (length buffer) 256 h, g)
+  pub lined_refused : (e : Refusal) → length buffer ≡ size.line → r ≡ refused (told e) → written (Err e) buffer ≡ on_buffer buffer r
+  lined_refused e h g = rw (eq-eqb (length buffer) size.line h, g)
 
-  pub lined_given : {t : List ℕ} {n : ℕ} {after : List ℕ} → length buffer ≡ 256 → r ≡ given t → Puts t 0 buffer n after → written (Ok n) after ≡ on_buffer buffer r
+  pub lined_given : {t : List ℕ} {n : ℕ} {after : List ℕ} → length buffer ≡ size.line → r ≡ given t → Puts t 0 buffer n after → written (Ok n) after ≡ on_buffer buffer r
   lined_given {t} {n} h g p =
       let e : n ≡ length t = omega (arith, p.place) in
-      rw (eq-eqb (length buffer) 256 h, g) (λ i. lined (given (e i)) (p.line i))
+      rw (eq-eqb (length buffer) size.line h, g) (λ i. lined (given (e i)) (p.line i))
 
 pub statistics_lined : (s : Store) → statistics_line s ≡ given (statistics_text s.budget.statistics)
 unfolding statistics_line

@@ -1,5 +1,6 @@
 -- The lines of the report: what each is of a store, and what writing one leaves in a lent buffer.
 use Rattle.std.specs.Prelude.{ℕ, Bool, cond, List, [], ◌∷◌, ◌++◌, map, eqb, length, Result, Ok, Err}
+use Rattle.sizes.specs.Sizes as size
 use Rattle.std.proofs.lemmas.List.Edits.{sets}
 use Rattle.limits.specs.declared.Refusal.{Refusal}
 use Rattle.limits.specs.declared.Refusal.TheVariants.{Shape}
@@ -69,7 +70,7 @@ statistics_line s = given (statistics_text s.budget.statistics)
 unfoldable pub refusal_line : Refusal → Reading (List ℕ)
 refusal_line e = given (refusal_text (told e))
 
--- ---- in a buffer of 256 bytes, which every line fits; one of another size meets 1
+-- ---- in a buffer that every line fits; one of another size meets 1
 
 pub record Lined : Type 0 where
   pub answer : Reading ℕ
@@ -84,7 +85,7 @@ put_line buffer (given text) = lined (given (length text)) (sets buffer 0 text)
 put_line buffer (refused e) = lined (refused e) buffer
 
 abbrev pub on_buffer : List ℕ → Reading (List ℕ) → Lined
-on_buffer buffer r = cond (eqb (length buffer) 256) (put_line buffer r) (lined (refused (told Shape)) buffer)
+on_buffer buffer r = cond (eqb (length buffer) size.line) (put_line buffer r) (lined (refused (told Shape)) buffer)
 
 -- the code's answer
 abbrev pub written : Result ℕ Refusal → List ℕ → Lined

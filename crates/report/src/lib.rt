@@ -3,6 +3,7 @@
 #![tactic(auto)]
 
 ghost use Rattle.std.specs.Prelude.{◌≡◌, ◌+◌, ◌≤◌, cond, length};
+ghost use Rattle.sizes.specs.Sizes as size;
 ghost use Rattle.limits.specs.Refusal.{told};
 ghost use Rattle.lattice.specs.Value.{value_of};
 ghost use Rattle.text.specs.Text.{line as worded, spaced_words};
@@ -14,9 +15,6 @@ use lattice::Abstract;
 use limits::{Refusal, Statistics};
 use numeric::Ended;
 use store::Store;
-
-// The bytes of a line's buffer. Every line fits.
-pub const LINE: usize = 256;
 
 // A head word, at the start of the line.
 fn put_word(line: &mut [u8], word: &[u8]) -> usize
@@ -45,7 +43,7 @@ fn put_told(line: &mut [u8], at: usize, refusal: Refusal) -> usize
 }
 
 fn put_done(line: &mut [u8], arguments: u64, rules: u64) -> usize
-    requires { 256 ≤ length line.old }
+    requires { size.line ≤ length line.old }
     ensures { Puts (done_text arguments rules) 0 line.old result line.new }
 {
     let at = put_word(line, b"done");
@@ -56,7 +54,7 @@ fn put_done(line: &mut [u8], arguments: u64, rules: u64) -> usize
 
 // A head word, and a refusal behind it.
 fn put_refused(line: &mut [u8], word: &[u8], refusal: Refusal) -> usize
-    requires { (length word.now ≤ 7) × (256 ≤ length line.old) }
+    requires { (length word.now ≤ 7) × (size.line ≤ length line.old) }
     ensures { Puts (worded word.now (told_words (told refusal))) 0 line.old result line.new }
 {
     let at = put_word(line, word);
@@ -65,7 +63,7 @@ fn put_refused(line: &mut [u8], word: &[u8], refusal: Refusal) -> usize
 }
 
 fn put_argument(line: &mut [u8], argument: u64, value: Abstract) -> usize
-    requires { 256 ≤ length line.old }
+    requires { size.line ≤ length line.old }
     ensures { Puts (argument_text argument (value_of value)) 0 line.old result line.new }
 {
     let bound = value.bound;
@@ -86,7 +84,7 @@ fn slot_letter(after: bool) -> u8
 }
 
 fn put_slot(line: &mut [u8], rule: u64, slot: u64, after: bool, bound: Bound) -> usize
-    requires { 256 ≤ length line.old }
+    requires { size.line ≤ length line.old }
     ensures { Puts (slot_text rule slot after bound) 0 line.old result line.new }
 {
     let at = text::put_byte(line, 0, slot_letter(after));
@@ -97,7 +95,7 @@ fn put_slot(line: &mut [u8], rule: u64, slot: u64, after: bool, bound: Bound) ->
 }
 
 fn put_statistics(line: &mut [u8], counts: Statistics) -> usize
-    requires { 256 ≤ length line.old }
+    requires { size.line ≤ length line.old }
     ensures { Puts (statistics_text counts) 0 line.old result line.new }
 {
     let at = text::put_byte(line, 0, b's');
@@ -115,7 +113,7 @@ fn put_statistics(line: &mut [u8], counts: Statistics) -> usize
 pub fn status_line(store: &Store, line: &mut [u8]) -> Result<usize, Refusal>
     ensures { written result line.new ≡ on_buffer line.old (status_line store.now) }
 {
-    if line.len() != LINE {
+    if line.len() != sizes::LINE {
         return Err(Refusal::Shape);
     }
     let status = numeric::status(store)?;
@@ -138,7 +136,7 @@ pub fn argument_line(
 ) -> Result<usize, Refusal>
     ensures { written result line.new ≡ on_buffer line.old (argument_line store.now arguments.now argument) }
 {
-    if line.len() != LINE {
+    if line.len() != sizes::LINE {
         return Err(Refusal::Shape);
     }
     let value = numeric::argument(store, arguments, argument)?;
@@ -157,7 +155,7 @@ pub fn slot_line(
 ) -> Result<usize, Refusal>
     ensures { written result line.new ≡ on_buffer line.old (slot_line store.now rules.now slots.now rule slot after) }
 {
-    if line.len() != LINE {
+    if line.len() != sizes::LINE {
         return Err(Refusal::Shape);
     }
     let bound = numeric::slot(store, rules, slots, rule, slot, after)?;
@@ -168,7 +166,7 @@ pub fn slot_line(
 pub fn statistics_line(store: &Store, line: &mut [u8]) -> Result<usize, Refusal>
     ensures { written result line.new ≡ on_buffer line.old (statistics_line store.now) }
 {
-    if line.len() != LINE {
+    if line.len() != sizes::LINE {
         return Err(Refusal::Shape);
     }
     Ok(put_statistics(line, store.budget.statistics))
@@ -178,7 +176,7 @@ pub fn statistics_line(store: &Store, line: &mut [u8]) -> Result<usize, Refusal>
 pub fn refusal_line(line: &mut [u8], refusal: Refusal) -> Result<usize, Refusal>
     ensures { written result line.new ≡ on_buffer line.old (refusal_line refusal) }
 {
-    if line.len() != LINE {
+    if line.len() != sizes::LINE {
         return Err(Refusal::Shape);
     }
     Ok(put_refused(line, b"refused", refusal))

@@ -156,6 +156,10 @@ bounds_row = slot_row * slots
 
 -- ---- the cells of the tables
 
+-- the bytes of a line of the report: every line fits
+abbrev pub line : ℕ
+line = 256
+
 abbrev pub predicate_cells : ℕ
 predicate_cells = predicate_row * predicates
 

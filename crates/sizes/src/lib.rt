@@ -113,6 +113,9 @@ pub const BOUNDS_ROW: usize = SLOT_ROW * SLOTS;
 
 // The cells of the tables.
 
+// The bytes of a line of the report: every line fits.
+pub const LINE: usize = 256;
+
 pub const PREDICATE_CELLS: usize = PREDICATE_ROW * PREDICATES;
 
 pub const NAME_CELLS: usize = NAME * CONSTANTS;
