@@ -33,7 +33,7 @@ use Rattle.transfer.proofs.Live.{Filled, Lent, rule_ends, head_good}
 use Rattle.rounds.specs.Locals.{Locals, locals, fill, blank_frame, locals_of, own_locals}
 use Rattle.rounds.specs.declared.Course.{Course}
 use Rattle.rounds.specs.Round.{Given, Standing, standing, holding_rows, each_rule, join_head, apply, produce, image, course, candidates_of, candidates}
-use Rattle.rounds.specs.Round.{blank_frame as table}
+use Rattle.rounds.specs.Round.{blank as table}
 use Rattle.limits.proofs.Charging.{charge_ends}
 use Rattle.rounds.proofs.Brings.{Brings, rows_of, held, brings_each, brings_locals, Stands, rules_keep}
 use Rattle.rounds.proofs.Joined.{brings_head}
