@@ -28,7 +28,7 @@ use Rattle.lattice.specs.Lattice.{top, numeric, meet}
 use Rattle.lattice.proofs.Tidiness.{Tidy, numeric_tidy, meet_tidy}
 use Rattle.sizes.specs.Sizes.{value_row}
 use Rattle.rows.specs.Row.{value_at, put}
-use Rattle.rows.specs.WellFormed.{WellFormed, ProperKey as ProperEnds}
+use Rattle.rows.specs.WellFormed.{WellFormed, Proper as ProperEnds}
 use Rattle.rows.proofs.RowLaws.{length_put, put_back, put_other}
 use Rattle.rows.proofs.Formed.{meet_formed, top_formed, numeric_formed}
 use Rattle.operators.proofs.Formed.{span_proper}

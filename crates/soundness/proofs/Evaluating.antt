@@ -37,7 +37,7 @@ use Rattle.lattice.specs.Lattice.{numeric, constant, copied, refine}
 use Rattle.lattice.proofs.Members.{InBound}
 use Rattle.lattice.proofs.Tidiness.{Tidy, numeric_tidy, constant_tidy, copied_tidy, refine_tidy}
 use Rattle.rows.specs.Row.{id_of, entries_of, value_at}
-use Rattle.rows.specs.WellFormed.{WellFormed, ProperKey as ProperEnds}
+use Rattle.rows.specs.WellFormed.{WellFormed, Proper as ProperEnds}
 use Rattle.rows.proofs.Formed.{numeric_formed, top_formed, constant_formed, copied_formed, refine_formed}
 use Rattle.keys.specs.Key.{Key, number, name}
 use Rattle.nodes.specs.declared.UnaryOp.{UnaryOp}

@@ -29,7 +29,7 @@ use Rattle.lattice.proofs.Copies.{copied_is}
 use Rattle.lattice.proofs.Tidiness.{refine_tidy}
 use Rattle.rows.specs.Row.{value_at, put}
 use Rattle.sizes.specs.Sizes.{value_row}
-use Rattle.rows.specs.WellFormed.{ProperKey as ProperEnds}
+use Rattle.rows.specs.WellFormed.{Proper as ProperEnds}
 use Rattle.rows.proofs.RowLaws.{length_put}
 use Rattle.rows.proofs.Formed.{refine_formed, proper_meet}
 use Rattle.keys.specs.Key.{Key, number}
