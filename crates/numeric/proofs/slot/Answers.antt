@@ -10,8 +10,8 @@ pub returns-in_err-readable : goal.returns-in_err-readable
 unfolding slot_reading
 returns-in_err-readable c = not_read _ _ _ c.from_residual.ensures.1 (turned_down c.args.store.now _ _ (rw c.is_slots_sized.ensures at c.readable.ensures) c.in_err-readable.was)
 
-pub bound_place-requires : goal.bound_place-requires
-bound_place-requires c = in_table c.args.rules.now c.args.rule c.args.slot (length c.args.slots.now) c.args.store.now.phase (sym (rw c.is_slots_sized.ensures at c.readable.ensures) ∙ c.in_ok-readable.was) (rw c.slots_at.ensures at c.if-slots_at-slot.false)
+pub bound_place-place-requires : goal.bound_place-place-requires
+bound_place-place-requires c = in_table c.args.rules.now c.args.rule c.args.slot (length c.args.slots.now) c.args.store.now.phase (sym (rw c.is_slots_sized.ensures at c.readable.ensures) ∙ c.in_ok-readable.was) (rw c.slots_at.ensures at c.if-slots_at-slot.false)
 
 pub read_bound-requires : goal.read_bound-requires
 read_bound-requires c =
