@@ -106,7 +106,7 @@ module _ {p : Accepted} {t : input.Tables} (g : Grounded p t) where
     ended : u.header.phase ≡ Completed → u.header.counts.positions ≡ n → u.header.budget.statistics.entries ≡ total u.arguments n → ((o : Opaque) → Holds o u.arguments) → Ran s u
     halted : {e : Stop} {c : Context} → u.header.phase ≡ Stopped e c → u.header.budget.statistics.entries ≡ total t.seeds n → u.arguments ≡ s.arguments → u.slots ≡ s.slots → Ran s u
 
-  module _ (numbers : All Number t.thresholds) (few : t.header.counts.thresholds + 2 ≤ length t.thresholds) (arguments slots : List ℕ) (size : value_row * n ≤ length arguments) where
+  module _ (numbers : All Number t.thresholds) (few : t.header.counts.thresholds + 2 ≤ length t.thresholds) (arguments slots : List ℕ) (roomy : value_row * n ≤ length arguments) where
     abbrev lent : Tables
     lent = tables t.header t.thresholds arguments slots
 
@@ -124,8 +124,8 @@ module _ {p : Accepted} {t : input.Tables} (g : Grounded p t) where
         Ends (λ _ u. Finished th all e some_opaque u.budget.statistics.entries u.current × ((o : Opaque) → Holds o u.current)) (λ _ u. u.budget.statistics.entries ≡ e + total u.current n) x →
         Ran lent (concluded t.seeds m marks lent x)
     conclude_sound th all m marks x (completes {a = a} {s = u} h) =
-        ended refl refl (omega (arith, h.0.live, seeds_live, moved_total u.current arguments h.0.room.1 n size))
-        (λ o. holds_as o u.current (moved u.current n arguments) (λ j l. moved_row u.current arguments h.0.room.1 n j size l) (h.1 o))
+        ended refl refl (omega (arith, h.0.live, seeds_live, moved_total u.current arguments h.0.room.1 n roomy))
+        (λ o. holds_as o u.current (moved u.current n arguments) (λ j l. moved_row u.current arguments h.0.room.1 n j roomy l) (h.1 o))
     conclude_sound th all m marks x (stops {e = r} {s = u} h) = halted refl (omega (arith, seeds_live)) refl refl
 
     pub ran_sound : Ran lent (ran_on (given_of (read t.nodes t.constants t.rules t.seeds) t.header) lent)
