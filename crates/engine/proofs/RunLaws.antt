@@ -1,6 +1,6 @@
 -- What the code answers of the run of an open store, and out to the call, is what the definitions say, over plain variables.
 use Rattle.sizes.specs.Sizes as size
-use Prim.Native.Nat.{ℕ, ◌+◌, ◌*◌, ◌≤◌, ◌<◌}
+use Prim.Native.Nat.{ℕ, ◌+◌, ◌≤◌, ◌<◌}
 use native.Mathlib.Omega.{arith}
 use mathlib.Core.Path.{◌≡◌, sym, ap, ◌∙◌}
 use mathlib.Core.Bool.{Bool, true}

@@ -1,5 +1,5 @@
 -- The examples of 01 that are proved, one row each: a computation, and what it gives.
-use Rattle.std.specs.Prelude.{ℕ, ◌*◌, ◌≡◌, List, [], ◌∷◌, pos, replicate}
+use Rattle.std.specs.Prelude.{ℕ, ◌≡◌, List, [], ◌∷◌, pos, replicate}
 use Rattle.sizes.specs.Sizes as size
 use Rattle.std.proofs.Math.Option.{Option, some, none}
 use Rattle.limits.specs.declared.Limits.{Limits}

@@ -1,7 +1,7 @@
 -- What calls keep true of the table of expressions: each row is the node of an expression, whose children have smaller ids, whose constant
 -- stands, and beside which its nesting is written. And what one call leaves, whichever way it ends.
 use Rattle.sizes.specs.Sizes as size
-use Prim.Native.Nat.{ℕ, zero, suc, ◌+◌, ◌*◌, ◌≤◌, ◌<◌, max}
+use Prim.Native.Nat.{ℕ, zero, suc, ◌+◌, ◌≤◌, ◌<◌, max}
 use native.Mathlib.Omega.{arith}
 use mathlib.Core.Path.{◌≡◌, refl, sym, ap, subst, ◌∙◌}
 use mathlib.Core.Bool.{Bool, true, false, cond}

@@ -1,5 +1,5 @@
 -- `Input::expression`, on the header and the lent table as they stand.
-use Rattle.std.specs.Prelude.{ℕ, zero, suc, ◌+◌, ◌*◌, max, Bool, true, false, cond, ◌&&◌, List, leb, ltb, eqb, length}
+use Rattle.std.specs.Prelude.{ℕ, zero, suc, ◌+◌, max, Bool, true, false, cond, ◌&&◌, List, leb, ltb, eqb, length}
 use Rattle.sizes.specs.Sizes as size
 use Rattle.limits.specs.declared.Stop.{Stop}
 use Rattle.limits.specs.declared.Budget.{Budget}

@@ -1,6 +1,6 @@
 -- What holds of a store between calls, and of a fresh one. `Played` shows that every list of calls keeps it.
 use Rattle.sizes.specs.Sizes as size
-use Prim.Native.Nat.{ℕ, ◌+◌, ◌*◌, ◌≤◌, ◌<◌}
+use Prim.Native.Nat.{ℕ, ◌+◌, ◌≤◌, ◌<◌}
 use native.Mathlib.Omega.{arith}
 use mathlib.Core.Path.{◌≡◌, refl, ap}
 use mathlib.Core.Bool.{Bool, true, false, cond, ◌&&◌}

@@ -2,17 +2,14 @@
 use Prim.Native.Nat.{ℕ, suc, ◌*◌, ◌≤◌, ◌<◌, ◌^◌}
 use native.Mathlib.Omega.{arith}
 use native.Mathlib.Nat.{mul-le-mul}
-use mathlib.Core.Path.{◌≡◌, refl, sym, ap, ◌∙◌}
-use borrow.Author.Tests.{eqb-true, eqb-false}
-use lib.Dec.{eqb}
-use mathlib.Core.Bool.{Bool, true, false}
+use mathlib.Core.Path.{◌≡◌}
+use mathlib.Core.Bool.{Bool}
 use lib.IntN.{ℤ, pos, negsuc, neg_ℤ, ◌+ℤ◌, ◌-ℤ◌, ◌*ℤ◌}
-use lib.Signed.{lt_z, le_z, mag}
+use lib.Signed.{lt_z, mag}
 use mir.Syntax.{Width, w32, w64}
 use mir.Val.{SFits, to_z, of_z}
 use mir.Facts.{to_z-of_z, sfits_widen}
-use Rattle.integers.specs.Order.{up, dn, eq_z, min_z, max_z, Number}
-use Rattle.integers.proofs.OrderLaws.{yes_eq, no_eq}
+use Rattle.integers.specs.Order.{up, dn, Number}
 use Rattle.integers.proofs.Sums.{one_zero, add_split, sub_split_ℤ, neg_up, neg_dn}
 
 -- ---- what a test of two signed locals says of the numbers

@@ -2,13 +2,12 @@
 use Prim.Native.Nat.{ℕ, suc, ◌+◌, ◌-◌, ◌≤◌, ◌<◌}
 use native.Mathlib.Omega.{arith}
 use native.Mathlib.Nat.{add-zero}
-use native.Mathlib.Decide.{dec_lt}
-use mathlib.Core.Path.{◌≡◌, refl, sym, ap, subst, ◌∙◌}
+use mathlib.Core.Path.{◌≡◌, ap, subst, ◌∙◌}
 use mathlib.Core.List.{List, ◌∷◌}
-use lib.ListN.{length, get_or, take, drop, set, length-set, length-take, length-drop}
-use lib.Seq.{sets, length-sets, drop-cons, drop-set-lt, get_or-take, get_or-drop}
+use lib.ListN.{length, get_or, take, drop, length-take, length-drop}
+use lib.Seq.{sets, length-sets, get_or-take, get_or-drop}
 use Rattle.integers.specs.Lists.{All, inserted}
-use Rattle.integers.proofs.Stores.{sets_before, sets_after, sets_in, sets_out, all_sets, all_take, all_drop}
+use Rattle.integers.proofs.Stores.{sets_before, sets_after, sets_in, all_sets, all_take, all_drop}
 
 module _ {A : Type 0} where
   -- ---- what stands where

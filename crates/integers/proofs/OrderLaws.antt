@@ -1,13 +1,12 @@
 -- The order of ℤ: its tests, that it is the library's, and the laws of least and greatest.
 use Prim.Native.Nat.{ℕ}
 use native.Mathlib.Omega.{arith}
-use mathlib.Core.Path.{◌≡◌, refl, sym, ap, subst}
-use mathlib.Core.Logic.{◌↔◌}
+use mathlib.Core.Path.{◌≡◌, refl, ap}
 use mathlib.Core.Bool.{Bool, true, false, cond}
 use borrow.Author.Tests.{ltb-true, ltb-false, leb-true, leb-false, eqb-true, lt-ltb, le-ltb, le-leb, lt-leb, eq-eqb, ne_eqb}
 use lib.Dec.{T}
 use lib.IntN.{ℤ, pos, negsuc}
-use lib.Signed.{lt_z, le_z, ◌≤ℤ◌, ◌<ℤ◌}
+use lib.Signed.{lt_z, le_z}
 use Rattle.integers.specs.Order.{Le, Lt, eq_z, min_z, max_z, least32, greatest32, Number, number?}
 use Rattle.integers.proofs.Tests.{by_cond, and_left, and_right}
 

@@ -5,7 +5,7 @@ use mathlib.Core.Path.{◌≡◌, refl, sym, ◌∙◌}
 use mathlib.Core.Bool.{Bool, true, false, ◌&&◌}
 use mathlib.Core.List.{List, [], ◌∷◌}
 use mathlib.Core.Option.{Option, some, none}
-use borrow.Author.Tests.{eq-eqb, ne_eqb, le-leb, lt-leb}
+use borrow.Author.Tests.{ne_eqb, le-leb, lt-leb}
 use lib.ListN.{length}
 use Rattle.std.specs.Prelude.{Some, None}
 use Rattle.std.specs.Option.{option_or}
@@ -18,7 +18,7 @@ use Rattle.interval.specs.declared.Bound.{Bound}
 use Rattle.interval.specs.declared.Constant.{Constant}
 use Rattle.interval.specs.declared.Constant.TheVariants.{Large}
 use Rattle.interval.specs.Bound.{constant_bound, hull_bound, meet_bound, same_bound, allows_of}
-use Rattle.lists.specs.Lists.{union, push, retain_all, collect, permits, same_ids}
+use Rattle.lists.specs.Lists.{union, push, retain_all, collect, permits}
 use Rattle.lattice.specs.declared.Widening.TheVariants.{SymbolSize, ValueWidth}
 use Rattle.lattice.specs.Value.{Value, value, Reason}
 use Rattle.lattice.specs.Constants.{constant_at}
@@ -110,7 +110,6 @@ module _ (u v : Value) (m : Meter) {m' : Meter} where
     other_bounds p = then_on _ _ _ h (no_on _ _ _ (sym q ∙ p) (pure_is _ _))
 
 module _ (x y : Option (List ℕ)) (m : Meter) where
-
   pub lengths_other : {l r : List ℕ} → some l ≡ x → some r ≡ y → (length l ≡ length r → ⊥) → going false m ≡ same_lists x y m
   lengths_other {l} {r} p q k = rw (← p, ← q, ne_eqb (length l) (length r) k) (pure_is _ _)
 

@@ -1,7 +1,7 @@
 -- What the code's answers are, over plain variables: each way out of `charge`, and of the charges of a meter and of a budget.
 use Prim.Native.Nat.{ℕ, ◌+◌, ◌*◌, ◌/◌, ◌%◌, ◌^◌, ◌<◌, ◌≤◌}
 use native.Mathlib.Omega.{arith}
-use mathlib.Core.Path.{◌≡◌, refl, sym, ap, ◌∙◌}
+use mathlib.Core.Path.{◌≡◌, refl, ◌∙◌}
 use Rattle.std.proofs.Common.{Result, Ok, Err, is_err}
 use mathlib.Core.Bool.{true, false}
 use borrow.Author.Tests.{le-leb, lt-leb}
@@ -17,7 +17,7 @@ use Rattle.limits.specs.Records.{limit_of, count_of, with_count, with_statistics
 use Rattle.limits.specs.Metered.{going, stopped, Metered, answered, mapped, through}
 use Rattle.limits.specs.Budget.{charge}
 use Rattle.limits.specs.declared.Meter.{Meter}
-use Rattle.limits.specs.Meter.{meter, with_meter, holding, dropping}
+use Rattle.limits.specs.Meter.{dropping}
 use Rattle.limits.specs.Meter as inner
 
 module _ (r : Resource) (old amount limit : ℕ) where

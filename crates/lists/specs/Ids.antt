@@ -1,8 +1,7 @@
 -- A list as it is made, and the next step of a union: the ids of the code's own records.
-use Rattle.std.specs.Prelude.{ℕ, min, cond, List, [], ◌∷◌, eqb, take, Option, Some, None, Result, Ok, Err}
+use Rattle.std.specs.Prelude.{ℕ, min, cond, List, [], ◌∷◌, eqb, take, Option, Some, None}
 use Rattle.std.proofs.Math.Option.{some, none}
 use Rattle.std.proofs.Math.Option as math
-use Rattle.limits.specs.Metered.{Run, going, stopped}
 use Rattle.lists.specs.declared.ids.Ids.{Ids}
 
 abbrev pub ids_of : Ids → List ℕ

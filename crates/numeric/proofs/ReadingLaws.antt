@@ -5,7 +5,7 @@ use native.Mathlib.Omega.{arith}
 use mathlib.Core.Path.{◌≡◌, refl, sym, ap, ◌∙◌, subst}
 use mathlib.Core.Bool.{Bool, true, false, cond, ◌&&◌}
 use mathlib.Core.List.{List, [], ◌∷◌, ◌++◌, append-nil}
-use borrow.Author.Tests.{lt-ltb, le-ltb, ltb-true, ltb-false, eqb-true, eq-eqb, ne_eqb}
+use borrow.Author.Tests.{lt-ltb, le-ltb, ltb-true, ltb-false, eqb-true, ne_eqb}
 use lib.Dec.{eqb, ltb}
 use lib.ListN.{length, get_or, length-append, get_or-append, get_or-eq_default}
 use lib.Seq.{get_or_at}
@@ -13,11 +13,7 @@ use Rattle.integers.proofs.Tests.{and_left, and_right}
 use Rattle.limits.specs.declared.Refusal.{Refusal}
 use Rattle.limits.specs.declared.Refusal.TheVariants.{Shape, Missing}
 use Rattle.limits.specs.Refusal.{told}
-use Rattle.interval.specs.declared.Integrality.{Integrality}
-use Rattle.interval.specs.declared.Interval.{Interval}
-use Rattle.cells.specs.Cells.{of_cell}
-use Rattle.keys.specs.Key.{name_at, kind_at, payload_at}
-use Rattle.rows.specs.Row.{integrality_of, interval_of}
+use Rattle.keys.specs.Key.{kind_at}
 use Rattle.results.specs.Result.{bound_place}
 use Rattle.store.specs.declared.Phase.{Phase}
 use Rattle.store.specs.declared.Phase.TheVariants.{Absent, Open, Completed, Stopped}

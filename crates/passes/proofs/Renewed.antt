@@ -1,7 +1,7 @@
 -- What a pass makes of the current values, from what it makes of each: R of an argument, its new value, and whether it has changed. Live entries
 -- are counted beside it: those of the current values, and while a pass is under way those of the candidates and of the next values.
 use Rattle.sizes.specs.Sizes as size
-use Prim.Native.Nat.{ℕ, zero, suc, ◌+◌, ◌*◌, ◌≤◌, ◌<◌}
+use Prim.Native.Nat.{ℕ, zero, suc, ◌+◌, ◌≤◌, ◌<◌}
 use native.Mathlib.Omega.{arith}
 use native.Mathlib.Decide.{dec_lt}
 use native.Mathlib.Nat.{add-zero}

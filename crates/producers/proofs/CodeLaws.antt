@@ -20,7 +20,7 @@ use Rattle.limits.specs.declared.Meter.{Meter}
 use Rattle.limits.specs.Meter.{meter_of, with_meter}
 use Rattle.limits.specs.Meter as inner
 use Rattle.limits.specs.Budget.{work, links}
-use Rattle.limits.proofs.Monad.{then_on, then_stop, pure_is, through_on, through_stop, came}
+use Rattle.limits.proofs.Monad.{then_on, then_stop, pure_is, through_on, through_stop}
 use Rattle.limits.proofs.Ends.{Ends, ends_pure, where_going, ends_as, ends_then, ends_through, in_some_way}
 use Rattle.nodes.specs.declared.Expression.{Expression}
 use Rattle.nodes.specs.declared.Expression.TheVariants.{Constant, Slot, Unary, Absolute, Binary, Unknown}
@@ -172,7 +172,6 @@ room_left None n i m k h l f = tt
 room_left (Some c) n i m k h l f = omega arith
 
 module _ {sc : Scope} {s₀ : Store} {t₀ : List ℕ} (items : List Head) {i : ℕ} {s : Store} {t : List ℕ} (p : Heading sc s₀ t₀ items i s t) where
-
   pub heading_all : length items ≤ i → going tt (records s t) ≡ check_heads sc items (records s₀ t₀)
   unfolding check_heads
   heading_all h =

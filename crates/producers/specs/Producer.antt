@@ -1,5 +1,5 @@
 -- `Input::rule`, on the header and the lent tables as they stand, with `check_expression`. Checks go in the Rust's order.
-use Rattle.std.specs.Prelude.{ℕ, zero, suc, ◌+◌, ◌*◌, Bool, ◌&&◌, List, [], ◌∷◌, leb, ltb, eqb, length}
+use Rattle.std.specs.Prelude.{ℕ, zero, suc, ◌+◌, Bool, ◌&&◌, List, [], ◌∷◌, leb, ltb, eqb, length}
 use Rattle.sizes.specs.Sizes as size
 use Rattle.limits.specs.declared.Stop.{Stop}
 use Rattle.limits.specs.declared.Budget.{Budget}

@@ -34,7 +34,7 @@ use Rattle.lattice.specs.Answers.{answered_value}
 use Rattle.rows.specs.Row.{case_cell, low_cell, high_cell, interval_of, entries_of}
 use Rattle.rows.proofs.RowLaws.{numeric_none}
 use Rattle.sizes.specs.Sizes.{refinement_row}
-use Rattle.refinements.specs.Refinement.{Refinement, refinement_at, refinements_of, put_refinement, integer?, narrow, restrict, place_or_end, position, notes, note}
+use Rattle.refinements.specs.Refinement.{Refinement, refinement_at, refinements_of, put_refinement, integer?, narrow, restrict, position, notes, note}
 use Rattle.refinements.specs.Refinement as refinements
 
 -- ---- a row

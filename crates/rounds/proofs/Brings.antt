@@ -12,7 +12,7 @@ use Rattle.limits.specs.Metered.{Run, going, stopped, Metered, pure, ◌>>◌, f
 use Rattle.limits.specs.declared.Meter.{Meter}
 use Rattle.limits.specs.Meter.{work, released, meter_of, with_meter}
 use Rattle.limits.proofs.Monad.{Holds, Ensures, any_value}
-use Rattle.limits.proofs.Ends.{Ends, completes, stops, ends_pure, ends_then, ends_through, ends_as, on_bind, on_then}
+use Rattle.limits.proofs.Ends.{Ends, completes, stops, ends_pure, ends_then, ends_through, on_bind, on_then}
 use Rattle.limits.proofs.Live.{LiveIn, Lives, live_work, live_ends}
 use Rattle.lattice.specs.Value.{Value}
 use Rattle.sizes.specs.Sizes.{value_row}

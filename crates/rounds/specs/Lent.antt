@@ -1,11 +1,9 @@
 -- What the code lends itself, as the definitions have it.
-use Rattle.std.specs.Prelude.{ℕ, List}
+use Rattle.std.specs.Prelude.{ℕ}
 use Rattle.limits.specs.declared.Stop.{Stop}
-use Rattle.limits.specs.declared.Budget.{Budget}
-use Rattle.limits.specs.Metered.{Metered, zoom}
-use Rattle.limits.specs.Meter.{meter_of, with_meter}
+use Rattle.limits.specs.Metered.{Metered}
 use Rattle.rules.specs.Read.{heads_at}
-use Rattle.slots.specs.Slots.{Slots, slots, each}
+use Rattle.slots.specs.Slots.{Slots, each}
 use Rattle.evaluation.specs.Operands.{input_in}
 use Rattle.rounds.specs.declared.Given as code
 use Rattle.rounds.specs.declared.Locals as code_locals

@@ -1,5 +1,5 @@
 -- A rule's slots in a run (`Local` of transfer.rs, in tables of their own), a unit of work before them; whoever has them made drops them.
-use Rattle.std.specs.Prelude.{ℕ, ◌*◌, List, replicate}
+use Rattle.std.specs.Prelude.{ℕ, List, replicate}
 use Rattle.sizes.specs.Sizes as size
 use Rattle.limits.specs.declared.Stop.{Stop}
 use Rattle.limits.specs.Metered.{Run, going, stopped, Metered, ◌>>=◌, ◌>>◌, finally, zoom}

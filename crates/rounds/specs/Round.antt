@@ -1,5 +1,5 @@
 -- `round` and `image` of engine.rs: all rules applied to given values, their heads joined into a copy of the seeds.
-use Rattle.std.specs.Prelude.{ℕ, zero, suc, ◌+◌, ◌*◌, List, replicate}
+use Rattle.std.specs.Prelude.{ℕ, zero, suc, ◌+◌, List, replicate}
 use Rattle.sizes.specs.Sizes as size
 use Rattle.limits.specs.declared.Stop.{Stop}
 use Rattle.limits.specs.declared.Budget.{Budget}
@@ -8,7 +8,6 @@ use Rattle.limits.specs.Budget.{round, released}
 use Rattle.limits.specs.Meter.{meter_of, with_meter}
 use Rattle.lattice.specs.Value.{Value}
 use Rattle.lattice.specs.Lattice.{join}
-use Rattle.rows.specs.Row.{value_at, put}
 use Rattle.limits.specs.Context.{Context}
 use Rattle.rules.specs.declared.Head.{Head}
 use Rattle.rules.specs.Read.{context_at, heads_at}

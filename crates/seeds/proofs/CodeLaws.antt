@@ -2,11 +2,9 @@
 use Prim.Native.Nat.{ℕ, ◌+◌, ◌≤◌}
 use native.Mathlib.Omega.{arith}
 use mathlib.Core.Path.{◌≡◌, refl, ap, ◌∙◌}
-use mathlib.Core.Bool.{Bool, true, false, cond}
+use mathlib.Core.Bool.{Bool, true, false}
 use mathlib.Core.List.{List}
-use mathlib.Core.Option.{some, none}
 use lib.IntN.{ℤ}
-use lib.ListN.{length, take, length-take}
 use Rattle.limits.specs.declared.Stop.{Stop}
 use Rattle.limits.specs.declared.Budget.{Budget}
 use Rattle.limits.specs.declared.Refusal.TheVariants.{Limit}
@@ -25,7 +23,7 @@ use Rattle.lattice.specs.declared.Abstract.{Abstract}
 use Rattle.lattice.specs.Value.{Value, value_of}
 use Rattle.lattice.specs.Constants.{constant_at}
 use Rattle.lattice.specs.Lattice.{numeric, constant, join, loses}
-use Rattle.rows.specs.Row.{list_of, entries_of, value_at, put}
+use Rattle.rows.specs.Row.{entries_of, value_at, put}
 use Rattle.thresholds.specs.Thresholds.{Entry, entry, around}
 use Rattle.thresholds.proofs.Sorted.{Ending, Grows, around_grows}
 use Rattle.store.specs.declared.Store.{Store}

@@ -1,6 +1,6 @@
 -- A store that is not open: every call that builds one is turned down and changes nothing.
 use Rattle.sizes.specs.Sizes as size
-use Prim.Native.Nat.{ℕ, ◌*◌}
+use Prim.Native.Nat.{ℕ}
 use native.Mathlib.Omega.{arith}
 use mathlib.Core.Path.{◌≡◌, refl, sym, ap, ◌∙◌}
 use mathlib.Core.Bool.{true, false, ◌&&◌}

@@ -1,6 +1,6 @@
 -- A run on a store that calls have reached is taken; it completes, or stops with 3 (work), 8 (links), 9 (live entries) or 10 (rounds).
 use Rattle.sizes.specs.Sizes as size
-use Prim.Native.Nat.{ℕ, zero, suc, ◌+◌, ◌-◌, ◌*◌}
+use Prim.Native.Nat.{ℕ, zero, suc, ◌+◌, ◌-◌}
 use native.Mathlib.Omega.{arith}
 use mathlib.Core.Path.{◌≡◌, refl, ap, ◌∙◌}
 use mathlib.Core.Logic.{◌⊎◌, inl, inr}

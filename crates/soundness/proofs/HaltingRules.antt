@@ -1,7 +1,7 @@
 -- What a computation may be stopped with. Whatever a rule does with its slots charges work and live entries alone: here that is followed through
 -- everything below a round.
 use Prim.Native.Nat.{ℕ, zero, suc, ◌+◌, min, ◌/◌}
-use Rattle.std.proofs.Common.{Result, Ok, Err}
+use Rattle.std.proofs.Common.{Ok, Err}
 use mathlib.Core.Path.{◌≡◌, refl}
 use mathlib.Core.Logic.{◌⊎◌, inl, inr}
 use mathlib.Core.Bool.{Bool, true, false, cond, ◌&&◌, ◌||◌}

@@ -1,7 +1,7 @@
 -- Demand 3: `sound`. A list of calls is played from a fresh store; as long as it is open its tables hold what the accepted calls have said, and
 -- from the run on nothing more is said and the results stay.
 use Rattle.sizes.specs.Sizes as size
-use Prim.Native.Nat.{ℕ, ◌*◌, ◌≤◌, ◌<◌}
+use Prim.Native.Nat.{ℕ, ◌≤◌, ◌<◌}
 use native.Mathlib.Omega.{arith}
 use mathlib.Core.Path.{◌≡◌, refl, sym, ap, subst, ◌∙◌}
 use mathlib.Core.Bool.{Bool, true, false, cond, ◌&&◌}

@@ -1,7 +1,7 @@
 -- Widening in a run of a store whose tables hold what the accepted calls have said. Its thresholds are in order and hold both ends of 32 bits, so that
 -- each widening is by 01's rule, and a side that has grown twice moves to the nearest threshold at or beyond it: there is always one.
 use Rattle.sizes.specs.Sizes as size
-use Prim.Native.Nat.{ℕ, zero, suc, ◌+◌, ◌*◌, ◌≤◌, ◌<◌}
+use Prim.Native.Nat.{ℕ, zero, suc, ◌+◌, ◌≤◌, ◌<◌}
 use native.Mathlib.Omega.{arith}
 use mathlib.Core.Path.{refl, subst, ◌∙◌}
 use mathlib.Core.List.{List, [], ◌∷◌, Memᴰ}

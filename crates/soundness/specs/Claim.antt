@@ -1,6 +1,6 @@
 -- Demand 3 as one statement over whole lists of calls. 01: "A number lies in a bound whose interval has it (Unbounded has all), a name in a Mixed
 -- one; a value lies in a list that has the id of a constant with that key."
-use Rattle.std.specs.Prelude.{ℕ, ◌*◌, ◌<◌, ◌^◌, ◌≡◌, length}
+use Rattle.std.specs.Prelude.{ℕ, ◌<◌, ◌^◌, ◌≡◌, length}
 use Rattle.sizes.specs.Sizes as size
 use mathlib.Core.List.{List, Memᴰ}
 use Rattle.std.proofs.Math.Option.{Option, some, none}

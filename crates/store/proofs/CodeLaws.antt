@@ -6,13 +6,13 @@ use native.Mathlib.Numerals.{add-one}
 use mathlib.Core.Path.{◌≡◌, refl, sym, ap, ◌∙◌}
 use mathlib.Core.Bool.{Bool, true, false}
 use mathlib.Core.List.{List}
-use borrow.Author.Tests.{leb-true, ltb-true, lt-ltb, eq-eqb, ne_eqb}
+use borrow.Author.Tests.{leb-true, ltb-true, lt-ltb, eq-eqb}
 use lib.Dec.{leb, ltb}
 use lib.IntN.{ℤ}
 use lib.ListN.{length, set}
 use Rattle.limits.specs.declared.Stop.{Stop}
 use Rattle.limits.specs.declared.Budget.{Budget}
-use Rattle.limits.specs.declared.Refusal.TheVariants.{Closed, Shape, Full, Limit}
+use Rattle.limits.specs.declared.Refusal.TheVariants.{Limit}
 use Rattle.limits.specs.declared.Refusal.{Refusal}
 use Rattle.limits.specs.Refusal.{Told, told}
 use Rattle.limits.specs.Metered.{Run, going, stopped, Metered, pure, after, ◌>>=◌, ◌>>◌, mapped, through}
@@ -129,13 +129,9 @@ module _ (m : Metered Stop Budget (Unit {0})) (s : Store) {t : Store} (h : going
   charged_context = ap (λ (u : Store). u.context) charged_budget.1
 
 module _ (arity : ℕ) (s : Store) (rows seeds : List ℕ) where
-
   module _ (n : length rows ≡ size.predicate_cells) where
-
     module _ (k : length seeds ≡ size.argument_cells) {t : Bool} (h : t ≡ admits s.phase) where
-
       module _ (o : t ≡ true) {f : Bool} (q : f ≡ room_for s.counts.predicates s.counts.positions arity) where
-
         module _ (y : f ≡ true) where
           pub predicate_work : (r : Refusal) {u : Store} → stopped (told r) u ≡ billing (work 1) s → stopped (told r) (tables u rows seeds) ≡ predicate_call arity (tables s rows seeds)
           unfolding predicate_call

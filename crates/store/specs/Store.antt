@@ -1,5 +1,5 @@
 -- The header of a store: which calls a phase admits, and the header with one part changed. Headers are made in this file alone.
-use Rattle.std.specs.Prelude.{ℕ, ◌+◌, Bool, true, false, cond, leb, Option, None}
+use Rattle.std.specs.Prelude.{ℕ, ◌+◌, Bool, true, false, cond, leb, None}
 use Rattle.sizes.specs.Sizes as size
 use Rattle.limits.specs.declared.Limits.{Limits}
 use Rattle.limits.specs.declared.Budget.{Budget}
