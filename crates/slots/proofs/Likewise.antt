@@ -14,6 +14,10 @@ module _ {E S A : Type 0} {P : A → S → S → Type 0} {Q : S → S → Type 0
   like_same (going a s) f g = both_go (f a s)
   like_same (stopped e s) f g = both_stop (g s)
 
+  -- from equal states
+  pub like_equal : (m : Metered E S A) {s t : S} → s ≡ t → ((a : A) (s : S) → P a s s) → ((s : S) → Q s s) → Likewise P Q (m s) (m t)
+  like_equal m {s} e f g = subst (λ (x : S). Likewise P Q (m s) (m x)) e (like_same (m s) f g)
+
   pub like_pure : (a : A) (s t : S) → P a s t → Likewise {E = E} P Q (pure a s) (pure a t)
   unfolding pure
   like_pure a s t h = both_go h
@@ -72,5 +76,5 @@ module _ {E F S T A : Type 0} (get : S → T) (kept left : S → T → S) (tell 
   pub like_part : (m : Metered E T A) (s t : S) → get s ≡ get t → ((a : A) (u : T) → R a (kept s u) (kept t u)) → ((u : T) → U (left s u) (left t u)) →
       Likewise R U (through get kept left tell m s) (through get kept left tell m t)
   like_part m s t e f g =
-      like_through {P = λ _ u v. u ≡ v} {Q = λ u v. u ≡ v} m s t (subst (λ (x : T). Likewise (λ _ u v. u ≡ v) (λ u v. u ≡ v) (m (get s)) (m x)) e (like_same (m (get s)) (λ _ u. refl) (λ u. refl)))
+      like_through {P = λ _ u v. u ≡ v} {Q = λ u v. u ≡ v} m s t (like_equal m e (λ _ u. refl) (λ u. refl))
       (λ a u v p. subst (λ (x : T). R a (kept s u) (kept t x)) p (f a u)) (λ u v p. subst (λ (x : T). U (left s u) (left t x)) p (g u))
