@@ -3,6 +3,7 @@ use mathlib.Core.Path.{◌≡◌, refl, subst}
 use mathlib.Core.Bool.{Bool, true, false, cond}
 use mathlib.Core.List.{List, [], ◌∷◌}
 use Rattle.limits.specs.Metered.{Run, going, stopped, Metered, pure, after, ◌>>=◌, ◌>>◌, fold_m, mapped, through}
+use Rattle.limits.proofs.Monad.{Holds}
 
 pub data Likewise {E S A : Type 0} (P : A → S → S → Type 0) (Q : S → S → Type 0) : Run E S A → Run E S A → Type 0 where
   both_go : {a : A} {s t : S} → P a s t → Likewise P Q (going a s) (going a t)
@@ -13,6 +14,11 @@ module _ {E S A : Type 0} {P : A → S → S → Type 0} {Q : S → S → Type 0
   pub like_same : (x : Run E S A) → ((a : A) (s : S) → P a s s) → ((s : S) → Q s s) → Likewise P Q x x
   like_same (going a s) f g = both_go (f a s)
   like_same (stopped e s) f g = both_stop (g s)
+
+  -- with what holds of the value
+  pub like_value : {H : A → Type 0} (x : Run E S A) → Holds H x → ((a : A) (s : S) → H a → P a s s) → ((s : S) → Q s s) → Likewise P Q x x
+  like_value (going a s) h f g = both_go (f a s h)
+  like_value (stopped e s) h f g = both_stop (g s)
 
   -- from equal states
   pub like_equal : (m : Metered E S A) {s t : S} → s ≡ t → ((a : A) (s : S) → P a s s) → ((s : S) → Q s s) → Likewise P Q (m s) (m t)
