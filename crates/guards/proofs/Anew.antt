@@ -95,12 +95,14 @@ module _ (nodes constants : List ℕ) where
   adds_known : (n id : ℕ) (x : Interval) → Adds n (narrow_known nodes constants n id x)
   unfolding narrow_known
   adds_known n id x =
-      adds_bind n (in_notes (note n id x)) _ (adds_note n id x) (λ k. adds_then k (in_slots (narrow_slot constants (affine nodes constants id) x)) (pure k) (stays_slots k _) (adds_pure k))
+      adds_bind n (in_notes (note n id x)) _ (adds_note n id x)
+      (λ k. adds_then k (in_slots (narrow_slot constants (affine nodes constants id) x)) (pure k) (stays_slots k _) (adds_pure k))
 
   adds_operand : (n id : ℕ) (x : Interval) → Adds n (refine_operand nodes constants n id x)
   unfolding refine_operand
   adds_operand n id x =
-      adds_after n (paying (known_identity nodes id)) _ (stays_paying n (known_identity nodes id)) (λ t. adds_test n t (narrow_known nodes constants n id x) (pure n) (adds_known n id x) (adds_pure n))
+      adds_after n (paying (known_identity nodes id)) _ (stays_paying n (known_identity nodes id))
+      (λ t. adds_test n t (narrow_known nodes constants n id x) (pure n) (adds_known n id x) (adds_pure n))
 
   adds_both : (n left : ℕ) (x : Interval) (right : ℕ) (y : Interval) → Adds n (refine_both nodes constants n left x right y)
   unfolding refine_both
@@ -157,7 +159,8 @@ module _ (i : Input) where
   unfolding guard_all
   adds_all gs s s' h = like_fold (λ b a t t' p. adds_step b a t t' p) 0 gs s s' h
 
-  module _ (domains : List ℕ) (n : ℕ) (gs : List Guard) (m : Meter) (p p' r r' : List ℕ) (size : length p ≡ value_row * n) (same : length p' ≡ length p) (alike : length r' ≡ length r) where
+  module _ (domains : List ℕ) (n : ℕ) (gs : List Guard) (m : Meter) (p p' r r' : List ℕ)
+      (size : length p ≡ value_row * n) (same : length p' ≡ length p) (alike : length r' ≡ length r) where
     -- both go on with the same answer, counts and values after guards, and as many refinements the same as the answer says are recorded, or both
     -- are stopped with the same stop and the same counts
     pub guard_anew : Likewise (λ k s s'. Beside k s s') Spent (guard i domains n gs (local m p r)) (guard i domains n gs (local m p' r'))

@@ -12,13 +12,13 @@ use lib.Seq.{sets}
 use Rattle.integers.specs.Lists.{from}
 use Rattle.limits.specs.declared.Stop.{Stop}
 use Rattle.limits.specs.declared.Meter.{Meter}
-use Rattle.limits.specs.Metered.{going, Metered, ◌>>=◌, zoom}
+use Rattle.limits.specs.Metered.{Run, going, Metered, ◌>>=◌, zoom}
 use Rattle.limits.proofs.Monad.{Ensures}
 use Rattle.interval.specs.declared.Interval.{Interval}
 use Rattle.interval.specs.Interval.{meet_of}
 use Rattle.rows.specs.Row.{case_cell, low_cell, high_cell}
 use Rattle.sizes.specs.Sizes.{refinement_row}
-use Rattle.slots.proofs.Likewise.{Likewise, both_go, like_value, like_bind, like_through}
+use Rattle.slots.proofs.Likewise.{Likewise, both_go, like_known, like_bind, like_through}
 use Rattle.slots.proofs.Shared.{Shared, shared_kept, shared_more}
 use Rattle.refinements.specs.Refinement.{Refinement, refinement_at, refinements_of, put_refinement, position, Notes, notes, noted, note}
 use Rattle.guards.proofs.Room.{position_within, length_from}
@@ -62,22 +62,24 @@ pub record Recorded (n : ℕ) (s s' : Notes) : Type 0 where
   pub meter : s.meter ≡ s'.meter
   pub shared : Shared (refinement_row * n) s.table s'.table
 
-module _ (n id : ℕ) (i : Interval) where
-  abbrev Noted : ℕ → Notes → Notes → Type 0
-  Noted k s s' = Likewise {E = Stop} (λ j t t'. Recorded j t t') (λ t t'. t.meter ≡ t'.meter) (noted n id i k s) (noted n id i k s')
+abbrev pub Records : Run Stop Notes ℕ → Run Stop Notes ℕ → Type 0
+Records x y = Likewise (λ k t t'. Recorded k t t') (λ t t'. t.meter ≡ t'.meter) x y
 
-  noted_like : (k : ℕ) (s s' : Notes) → k ≤ n → Recorded n s s' → Noted k s s'
+module _ (n id : ℕ) (i : Interval) where
+  -- by whether the place is one that is recorded, and whether the table has room
+  placed : ℕ → Notes → Bool → Bool → Run Stop Notes ℕ
+  placed k s t u =
+      cond t (going n (notes s.meter (put_refinement s.table k id (meet_of (refinement_at s.table k).restriction i))))
+      (cond u (going (n + 1) (notes s.meter (put_refinement s.table k id i))) (going n s))
+
+  noted_like : (k : ℕ) (s s' : Notes) → k ≤ n → Recorded n s s' → Records (noted n id i k s) (noted n id i k s')
+  unfolding placed
   noted_like k s s' b h = known (ltb k n) refl
     where
-      Choice : Bool → Bool → Bool → Type 0
-      Choice t u u' = Likewise {E = Stop} (λ j t t'. Recorded j t t') (λ t t'. t.meter ≡ t'.meter)
-          (cond t (going n (notes s.meter (put_refinement s.table k id (meet_of (refinement_at s.table k).restriction i)))) (cond u (going (n + 1) (notes s.meter (put_refinement s.table k id i))) (going n s)))
-          (cond t (going n (notes s'.meter (put_refinement s'.table k id (meet_of (refinement_at s'.table k).restriction i)))) (cond u' (going (n + 1) (notes s'.meter (put_refinement s'.table k id i))) (going n s')))
-
       room : ltb k (length s.table / refinement_row) ≡ ltb k (length s'.table / refinement_row)
       room = ap (λ (c : ℕ). ltb k (c / refinement_row)) (sym h.shared.size)
 
-      more : n ≤ k → (u : Bool) → ltb k (length s.table / refinement_row) ≡ u → Choice false u u
+      more : n ≤ k → (u : Bool) → ltb k (length s.table / refinement_row) ≡ u → Records (placed k s false u) (placed k s' false u)
       more l true e =
           let p : k ≡ n = omega arith in
           let r : k < length s.table / refinement_row = ltb-true k (length s.table / refinement_row) e in
@@ -88,23 +90,26 @@ module _ (n id : ℕ) (i : Interval) where
           }
       more l false e = both_go h
 
-      known : (t : Bool) → ltb k n ≡ t → Choice t (ltb k (length s.table / refinement_row)) (ltb k (length s'.table / refinement_row))
+      known : (t : Bool) → ltb k n ≡ t → Records (placed k s t (ltb k (length s.table / refinement_row))) (placed k s' t (ltb k (length s'.table / refinement_row)))
       known true e =
           let q = refinement_same n h.shared k (ltb-true k n e) in
           both_go record { meter = h.meter; shared = rw (sym q) (put_kept k id (meet_of (refinement_at s.table k).restriction i) h.shared) }
-      known false e = subst (λ (u : Bool). Choice false (ltb k (length s.table / refinement_row)) u) room (more (ltb-false k n e) (ltb k (length s.table / refinement_row)) refl)
+      known false e =
+          subst (λ (u : Bool). Records (placed k s false (ltb k (length s.table / refinement_row))) (placed k s' false u)) room
+          (more (ltb-false k n e) (ltb k (length s.table / refinement_row)) refl)
 
-  pub note_like : (s s' : Notes) → Recorded n s s' → Likewise (λ k t t'. Recorded k t t') (λ t t'. t.meter ≡ t'.meter) (note n id i s) (note n id i s')
+  pub note_like : (s s' : Notes) → Recorded n s s' → Records (note n id i s) (note n id i s')
   unfolding note
   note_like s s' h =
-      subst (λ (rs : List Refinement). Likewise (λ k t t'. Recorded k t t') (λ t t'. t.meter ≡ t'.meter) (note n id i s) ((zoom (λ t. t.meter) (λ m t. notes m t.table) (position 0 rs id) >>= noted n id i) s'))
-      (refinements_same n h.shared)
-      (like_bind {P = λ k t t'. (k ≤ n) × Recorded n t t'} {Q = λ t t'. t.meter ≡ t'.meter} (zoom (λ t. t.meter) (λ m t. notes m t.table) found) (noted n id i) s s'
-      (like_through _ _ _ _ {P = λ k u v. (k ≤ n) × (u ≡ v)} {Q = λ u v. u ≡ v} found s s'
-      (subst (λ (m : Meter). Likewise (λ k u v. (k ≤ n) × (u ≡ v)) (λ u v. u ≡ v) (found s.meter) (found m)) h.meter (like_value (found s.meter) (within.at s.meter) (λ k u b. (b, refl)) (λ u. refl)))
+      subst (λ (rs : List Refinement). Records (note n id i s) ((sought rs >>= noted n id i) s')) (refinements_same n h.shared)
+      (like_bind {P = λ k t t'. (k ≤ n) × Recorded n t t'} {Q = λ t t'. t.meter ≡ t'.meter} (sought (refinements_of s.table n)) (noted n id i) s s'
+      (like_through _ _ _ _ {P = λ k u v. (k ≤ n) × (u ≡ v)} {Q = λ u v. u ≡ v} found s s' (like_known found h.meter (within.at s.meter) (λ k u b. (b, refl)) (λ u. refl))
       (λ k u v p. (p.0, record { meter = p.1; shared = h.shared })) (λ u v q. q))
       (λ k t t' p. noted_like k t t' p.0 p.1) (λ t t' q. q))
     where
+      sought : List Refinement → Metered Stop Notes ℕ
+      sought rs = zoom (λ t. t.meter) (λ m t. notes m t.table) (position 0 rs id)
+
       found : Metered Stop Meter ℕ
       found = position 0 (refinements_of s.table n) id
 

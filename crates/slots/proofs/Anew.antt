@@ -61,6 +61,11 @@ Paid s s' = s.meter ≡ s'.meter
 pub level_all : {n : ℕ} {s s' : Slots} → Level n n s s' → s ≡ s'
 level_all {n} {s} {s'} h = λ d. slots (h.meter d) (shared_all h.shared (omega (arith, h.size)) d)
 
+-- with other counts
+level_meter : {n k : ℕ} (s s' : Slots) → Level n k s s' → (m : Meter) → Level n k (slots m s.rows) (slots m s'.rows)
+level_meter s s' h m = record { meter = refl; size = h.size; shared = h.shared }
+
+-- with one row more
 level_put : {n k : ℕ} (s s' : Slots) → k < n → Level n k s s' → (v : Value) → Level n (k + 1) (slots s.meter (put s.rows k v)) (slots s'.meter (put s'.rows k v))
 level_put {n} {k} s s' l h v = record { meter = h.meter; size = length_put s.rows k v ∙ h.size; shared = shared_put k h.shared v (omega (arith, h.size)) }
 
@@ -70,17 +75,18 @@ tops_level n k zero e s s' h = like_pure tt s s' (let d : k ≡ n = omega arith 
 tops_level n k (suc j) e s s' h =
     like_then {P = λ _ t t'. Level n (k + 1) t t'} {Q = Paid} (after_unit (putting k (top None))) (tops (k + 1) j) s s'
     (like_then {P = λ _ t t'. Level n k t t'} {Q = Paid} (paying (work 1)) (putting k (top None)) s s'
-    (like_part _ _ _ _ (work 1) s s' h.meter (λ _ m. record { meter = refl; size = h.size; shared = h.shared }) (λ m. refl))
+    (like_part _ _ _ _ (work 1) s s' h.meter (λ _ m. level_meter s s' h m) (λ m. refl))
     (λ _ t t' q. both_go (level_put t t' (omega arith) q (top None))) (λ t t' q. q))
     (λ _ t t' q. tops_level n (k + 1) j (omega arith) t t' q) (λ t t' q. q)
 
-copies_level : (domains : List ℕ) (n k j : ℕ) → k + j ≡ n → (s s' : Slots) → Level n k s s' → Likewise (λ _ t t'. Level n n t t') Paid (copies domains k j s) (copies domains k j s')
+copies_level : (domains : List ℕ) (n k j : ℕ) → k + j ≡ n → (s s' : Slots) → Level n k s s' →
+    Likewise (λ _ t t'. Level n n t t') Paid (copies domains k j s) (copies domains k j s')
 unfolding copies
 copies_level domains n k zero e s s' h = like_pure tt s s' (let d : k ≡ n = omega arith in subst (λ (i : ℕ). Level n i s s') d h)
 copies_level domains n k (suc j) e s s' h =
     like_bind {P = λ _ t t'. Level n k t t'} {Q = Paid} (holding_rows k (paying (copied (value_at domains k)))) (λ v. putting k v >> copies domains (k + 1) j) s s'
     (like_through _ _ _ _ {P = λ _ t t'. Level n k t t'} {Q = λ t t'. Level n k t t'} (paying (copied (value_at domains k))) s s'
-    (like_part _ _ _ _ (copied (value_at domains k)) s s' h.meter (λ _ m. record { meter = refl; size = h.size; shared = h.shared }) (λ m. record { meter = refl; size = h.size; shared = h.shared }))
+    (like_part _ _ _ _ (copied (value_at domains k)) s s' h.meter (λ _ m. level_meter s s' h m) (λ m. level_meter s s' h m))
     (λ _ t t' q. q) (λ t t' q. fewer_same t t' q))
     (λ v t t' q.
     like_then {P = λ _ u u'. Level n (k + 1) u u'} {Q = Paid} (putting k v) (copies domains (k + 1) j) t t' (both_go (level_put t t' (omega arith) q v))

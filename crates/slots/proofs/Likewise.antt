@@ -1,5 +1,5 @@
 -- Two runs end alike: both go on, with one value and states of which P holds, or both are stopped, with one stop and states of which Q holds.
-use mathlib.Core.Path.{◌≡◌, refl, subst}
+use mathlib.Core.Path.{◌≡◌, refl, ap, subst}
 use mathlib.Core.Bool.{Bool, true, false, cond}
 use mathlib.Core.List.{List, [], ◌∷◌}
 use Rattle.limits.specs.Metered.{Run, going, stopped, Metered, pure, after, ◌>>=◌, ◌>>◌, fold_m, mapped, through}
@@ -15,14 +15,17 @@ module _ {E S A : Type 0} {P : A → S → S → Type 0} {Q : S → S → Type 0
   like_same (going a s) f g = both_go (f a s)
   like_same (stopped e s) f g = both_stop (g s)
 
-  -- with what holds of the value
-  pub like_value : {H : A → Type 0} (x : Run E S A) → Holds H x → ((a : A) (s : S) → H a → P a s s) → ((s : S) → Q s s) → Likewise P Q x x
+  like_value : {H : A → Type 0} (x : Run E S A) → Holds H x → ((a : A) (s : S) → H a → P a s s) → ((s : S) → Q s s) → Likewise P Q x x
   like_value (going a s) h f g = both_go (f a s h)
   like_value (stopped e s) h f g = both_stop (g s)
 
   -- from equal states
   pub like_equal : (m : Metered E S A) {s t : S} → s ≡ t → ((a : A) (s : S) → P a s s) → ((s : S) → Q s s) → Likewise P Q (m s) (m t)
   like_equal m {s} e f g = subst (λ (x : S). Likewise P Q (m s) (m x)) e (like_same (m s) f g)
+
+  -- and with what holds of the value
+  pub like_known : {H : A → Type 0} (m : Metered E S A) {s t : S} → s ≡ t → Holds H (m s) → ((a : A) (s : S) → H a → P a s s) → ((s : S) → Q s s) → Likewise P Q (m s) (m t)
+  like_known m {s} e h f g = subst (λ (x : S). Likewise P Q (m s) (m x)) e (like_value (m s) h f g)
 
   pub like_pure : (a : A) (s t : S) → P a s t → Likewise {E = E} P Q (pure a s) (pure a t)
   unfolding pure
@@ -37,6 +40,11 @@ module _ {E S A : Type 0} where
       Likewise R U x y
   like_as (both_go h) f g = both_go (f _ _ _ h)
   like_as (both_stop h) f g = both_stop (g _ _ h)
+
+  -- with the same states they are one
+  pub like_is : {x y : Run E S A} → Likewise (λ _ s t. s ≡ t) (λ s t. s ≡ t) x y → x ≡ y
+  like_is (both_go {a = a} h) = ap (going a) h
+  like_is (both_stop {e = e} h) = ap (stopped e) h
 
 -- ---- one step after another
 
