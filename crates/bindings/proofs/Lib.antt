@@ -1,3 +1,4 @@
 pub mod CodeLaws
 pub mod Live
 pub mod Steady
+pub mod Anew

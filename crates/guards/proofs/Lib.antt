@@ -3,3 +3,5 @@ pub mod Steady
 pub mod Live
 pub mod Narrowed
 pub mod Room
+pub mod Recorded
+pub mod Anew

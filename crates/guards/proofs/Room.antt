@@ -38,12 +38,12 @@ pub record Put (n id : ℕ) (t : Notes) (k : ℕ) (u : Notes) : Type 0 where
   pub few : k ≤ n + 1
   pub is : u.table ≡ put_refinement t.table place id interval
 
-position_within : (k n : ℕ) (rs : List Refinement) (id : ℕ) → k + length rs ≤ n → Ensures (λ p. p ≤ n) (position k rs id)
+pub position_within : (k n : ℕ) (rs : List Refinement) (id : ℕ) → k + length rs ≤ n → Ensures (λ p. p ≤ n) (position k rs id)
 unfolding position
 position_within k n [] id h = by_pure k (omega arith)
 position_within k n (r ∷ rs) id h = then (work 1) (by_test (eqb r.expression id) (λ _. by_pure k (omega arith)) (λ _. position_within (k + 1) n rs id (omega arith)))
 
-length_from : {A : Type 0} (f : ℕ → A) (j n : ℕ) → length (from f j n) ≡ n
+pub length_from : {A : Type 0} (f : ℕ → A) (j n : ℕ) → length (from f j n) ≡ n
 unfolding from
 length_from f j zero = refl
 length_from f j (suc n) = ap suc (length_from f (j + 1) n)
