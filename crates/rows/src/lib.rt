@@ -26,7 +26,7 @@ fn start(len: usize, number: usize) -> usize
     VALUE_ROW.saturating_mul(number).min(len)
 }
 
-pub fn integrality_of(cell: u32) -> Integrality
+fn integrality_of(cell: u32) -> Integrality
     ensures { result ≡ integrality_of cell }
 {
     match cell {
