@@ -80,8 +80,8 @@ fn threshold_below(thresholds: &[i32], low: i32, meter: &mut Meter) -> Result<i3
     Ok(low)
 }
 
-// The place of the first threshold that is not below `high`, or their number. Not inlined: a run spends a third of its time in this loop, and
-// in a function of its own it does not move with whatever is compiled around it.
+// The place of the first threshold that is not below `high`, or their number. Not inlined: bench/'s job `climb` spends nearly half of its
+// instructions in this loop, and in a function of its own it does not move with whatever is compiled around it.
 #[inline(never)]
 fn first_above(thresholds: &[i32], high: i32) -> usize
     ensures { result ≡ first_place (le_z high) thresholds.now }
