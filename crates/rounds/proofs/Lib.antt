@@ -4,3 +4,4 @@ pub mod Joined
 pub mod Pays
 pub mod Live
 pub mod Steady
+pub mod Anew
