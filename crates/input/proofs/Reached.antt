@@ -51,7 +51,7 @@ pub record Sized (t : Tables) : Type 0 where
   pub rules : length t.rules ≡ size.rule_cells
 
 -- and no more rows stand than they have room for
-pub record Counted (n : Counts) : Type 0 where
+pub record CountsFit (n : Counts) : Type 0 where
   pub predicates : n.predicates ≤ 64
   pub positions : n.positions ≤ 256
   pub constants : n.constants ≤ 1024
@@ -84,7 +84,7 @@ pub record Rules (n arguments expressions : ℕ) (nodes cells : List ℕ) : Type
 
 pub record Reached (t : Tables) : Type 0 where
   pub sized : Sized t
-  pub counted : Counted t.header.counts
+  pub counted : CountsFit t.header.counts
   pub narrow : t.header.budget.limits.width ≤ 16
   -- the context in force, if there is one, has 32 bits
   pub context : SmallContext t.header.context
