@@ -4,7 +4,6 @@
 
 ghost use Rattle.std.specs.Prelude.{◌≡◌, ◌&&◌, ◌*◌, ◌<◌, ◌≤◌, eqb, length, get_or};
 ghost use Rattle.sizes.specs.Sizes as size;
-ghost use Rattle.results.specs.Result.{bound_place};
 ghost use Rattle.numeric.specs.Reading.{contexts_of, nth, kind_of, name_of, argument_reading, context_count_reading, context_reading, slot_reading, key_reading, name_reading, status_reading};
 ghost use Rattle.lattice.specs.Value.{value_of};
 ghost use Rattle.numeric.specs.Answers.{readable, reads, kind, status};
@@ -12,7 +11,7 @@ ghost use Rattle.numeric.specs.Answers.{readable, reads, kind, status};
 use interval::{Bound, Constant};
 use lattice::Abstract;
 use limits::{Refusal, Stop};
-use sizes::{BOUND_ROW, BOUNDS_ROW, RECORD_ROW, RECORDS, SLOT_ROW};
+use sizes::{RECORD_ROW, RECORDS};
 use store::{Phase, Store};
 
 // How the run ended: stopped, with its Stop and the context in force there.
@@ -111,15 +110,6 @@ pub fn context(store: &Store, records: &[u32], argument: u64, k: u64) -> Result<
     find_context(records, store.counts.provenance.min(RECORDS), argument, k)
 }
 
-// Where the bound of a slot stands, before guards or after them.
-fn bound_place(rule: usize, slot: usize, after: bool) -> usize
-    requires { (rule < size.rules) × (slot < size.slots) }
-    ensures { result ≡ bound_place rule slot after }
-{
-    let at = BOUNDS_ROW * rule + SLOT_ROW * slot;
-    if after { at + BOUND_ROW } else { at }
-}
-
 fn is_slots_sized(rules: usize, slots: usize) -> bool
     ensures { result ≡ eqb rules size.rule_cells && eqb slots size.bounds_cells }
 {
@@ -145,7 +135,7 @@ pub fn slot(
     if rules::slots_at(rules, rule as usize) <= slot {
         return Err(Refusal::MissingSlot);
     }
-    let place = bound_place(rule as usize, slot as usize, after);
+    let place = results::bound_place(rule as usize, slot as usize, after);
     Ok(rows::read_bound(slots, place))
 }
 

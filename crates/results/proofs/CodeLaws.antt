@@ -1,8 +1,8 @@
 -- What the code of results answers is what the definitions say, over plain variables.
-use Prim.Native.Nat.{ℕ, suc, ◌+◌, ◌-◌, ◌*◌, ◌<◌, ◌≤◌}
+use Prim.Native.Nat.{ℕ, suc, ◌+◌, ◌-◌, ◌<◌, ◌≤◌}
 use native.Mathlib.Omega.{arith}
 use mathlib.Core.Path.{◌≡◌, ap, ◌∙◌}
-use mathlib.Core.Bool.{Bool, cond}
+use mathlib.Core.Bool.{Bool}
 use mathlib.Core.List.{List}
 use borrow.Author.Tests.{lt-ltb, le-ltb}
 use lib.Seq.{sets}
@@ -15,7 +15,7 @@ use Rattle.interval.specs.declared.Bound.{Bound}
 use Rattle.rows.specs.Row.{bound_cells, value_at}
 use Rattle.slots.specs.Slots.{Slots, slots, after_unit}
 use Rattle.slots.proofs.CodeLaws.{step_stop, step_goes}
-use Rattle.results.specs.Result.{put_bound, keeping, keep_bounds}
+use Rattle.results.specs.Result.{bound_place, put_bound, keeping, keep_bounds}
 
 -- ---- the cells of a bound
 
@@ -28,7 +28,7 @@ module _ (cells : List ℕ) (id slot : ℕ) (after : Bool) (b : Bound) where
   unfolding put_bound
   put_no_slot h k = rw (lt-ltb id 256 h, le-ltb slot 16 k)
 
-  pub put_there : id < 256 → slot < 16 → {n : ℕ} {r : List ℕ} → n ≡ cond after 4 0 → r ≡ sets cells (128 * id + 8 * slot + n) (bound_cells b) → r ≡ put_bound cells id slot after b
+  pub put_there : id < 256 → slot < 16 → {n : ℕ} {r : List ℕ} → n ≡ bound_place id slot after → r ≡ sets cells n (bound_cells b) → r ≡ put_bound cells id slot after b
   unfolding put_bound
   put_there h k p q = q ∙ rw (p, lt-ltb id 256 h, lt-ltb slot 16 k)
 

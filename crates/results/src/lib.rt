@@ -2,18 +2,28 @@
 //! bounds go into a table that the caller keeps until the last charge is accepted.
 #![tactic(auto)]
 
-ghost use Rattle.std.specs.Prelude.{◌≡◌};
+ghost use Rattle.std.specs.Prelude.{◌≡◌, ◌<◌};
+ghost use Rattle.sizes.specs.Sizes as size;
 ghost use Rattle.limits.specs.Metered.{answered};
 ghost use Rattle.slots.specs.Slots.{slots};
 ghost use Rattle.rounds.specs.Round.{standing};
 ghost use Rattle.rounds.specs.Lent.{given_in};
 ghost use Rattle.evaluation.specs.Operands.{input_in};
-ghost use Rattle.results.specs.Result.{put_bound, keep_bounds, keep_both, close, ending, last_round, last};
+ghost use Rattle.results.specs.Result.{bound_place, put_bound, keep_bounds, keep_both, close, ending, last_round, last};
 
 use interval::Bound;
 use limits::{Meter, Resource, Stop};
 use rounds::{Course, Given, Locals, Task};
 use sizes::{BOUND_ROW, BOUNDS_ROW, SLOT_ROW};
+
+// Where the bound of a slot stands, before guards or after them. The caller has tested that there are such a rule and such a slot.
+pub fn bound_place(rule: usize, slot: usize, after: bool) -> usize
+    requires { (rule < size.rules) × (slot < size.slots) }
+    ensures { result ≡ bound_place rule slot after }
+{
+    let at = BOUNDS_ROW * rule + SLOT_ROW * slot;
+    if after { at + BOUND_ROW } else { at }
+}
 
 // A bound of a rule's slot, before guards or after them.
 fn put_bound(cells: &mut [u32], id: usize, slot: usize, after: bool, bound: Bound)
@@ -22,7 +32,7 @@ fn put_bound(cells: &mut [u32], id: usize, slot: usize, after: bool, bound: Boun
     if sizes::RULES <= id || sizes::SLOTS <= slot {
         return;
     }
-    let at = BOUNDS_ROW * id + SLOT_ROW * slot + if after { BOUND_ROW } else { 0 };
+    let at = bound_place(id, slot, after);
     cells::put_cell(cells, at, rows::integrality_cell(bound.integrality));
     cells::put_cell(cells, at + 1, rows::case_cell(bound.interval));
     cells::put_cell(cells, at + 2, rows::low_cell(bound.interval));

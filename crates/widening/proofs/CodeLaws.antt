@@ -2,16 +2,17 @@
 use Prim.Native.Nat.{ℕ, ◌+◌, ◌*◌, ◌≤◌, ◌<◌}
 use native.Mathlib.Omega.{arith}
 use native.Mathlib.Numerals.{add-one}
-use mathlib.Core.Path.{◌≡◌, refl, ap, ◌∙◌}
+use mathlib.Core.Path.{◌≡◌, refl, sym, ap, subst, ◌∙◌}
 use mathlib.Core.Bool.{Bool, true, false, cond}
 use mathlib.Core.List.{List, [], ◌∷◌, reverse, reverse-append}
 use borrow.Author.Tests.{lt-ltb, le-ltb}
+use lib.Dec.{ltb}
 use lib.IntN.{ℤ}
 use lib.ListN.{length, get_or, set}
 use Rattle.std.specs.List.{push}
-use Rattle.std.specs.Prelude.{Some, None}
+use Rattle.std.specs.Prelude.{Option, Some, None}
 use Rattle.limits.specs.declared.Stop.{Stop}
-use Rattle.limits.specs.Metered.{Metered, going, stopped, pure, ◌>>◌}
+use Rattle.limits.specs.Metered.{Run, Metered, going, stopped, pure, ◌>>=◌, ◌>>◌}
 use Rattle.limits.specs.declared.Meter.{Meter}
 use Rattle.limits.specs.Meter.{work}
 use Rattle.limits.proofs.Monad.{bind_stop, bind_on, pure_is}
@@ -19,6 +20,7 @@ use Rattle.limits.proofs.Onward.{Onward, onward_ends, onward_yes, onward_no, the
 use Rattle.interval.specs.declared.Interval.{Interval}
 use Rattle.interval.specs.Interval.{endpoints_of}
 use Rattle.widening.specs.declared.Growth.{Growth}
+use Rattle.widening.specs.Places.{counted}
 use Rattle.widening.specs.Widening.{growth, Side, side, wide, nearest, grow_side, widen_low, widen_high, with_ends, widen, growth_at, put_growth, no_growth}
 
 -- ---- growth in its cells
@@ -75,22 +77,32 @@ pub all_seen : (l : List ℤ) → length l ≡ 0 → reverse l ≡ []
 all_seen [] e = refl
 all_seen (x ∷ l) e = absurd (omega arith)
 
--- ---- a side, by what keeps it
+-- ---- a side, by what the code finds of it
 
 module _ (stays : Bool) (end : ℤ) (grown : ℕ) (search : Metered Stop Meter ℤ) (m : Meter) where
-  pub side_stays : stays ≡ true → going (side end grown) m ≡ grow_side stays end grown search m
-  side_stays b = rw b (pure_is _ _)
+  -- what is found says what comes of the side
+  abbrev Told : Run Stop Meter Side → Option Side → Type 0
+  Told x (Some s) = going s m ≡ x
+  Told x None = (search >>= (λ z. pure (side z grown))) m ≡ x
 
-  module _ (b : stays ≡ false) where
-    pub side_counted : grown < 2 → going (side end (grown + 1)) m ≡ grow_side stays end grown search m
-    side_counted h = rw (b, lt-ltb grown 2 h) (pure_is _ _)
+  told : (b c : Bool) →
+      Told (cond b (pure (side end grown)) (cond c (pure (side end (grown + 1))) (search >>= (λ z. pure (side z grown)))) m) (cond b (Some (side end grown)) (cond c (Some (side end (grown + 1))) None))
+  told true c = pure_is _ _
+  told false true = pure_is _ _
+  told false false = refl
 
-    module _ (h : 2 ≤ grown) where
-      pub side_stops : {stop : Stop} {t : Meter} → stopped stop t ≡ search m → stopped stop t ≡ grow_side stays end grown search m
-      side_stops k = rw (b, le-ltb grown 2 h) (bind_stop search m _ k)
+  pub side_kept : {s : Side} → Some s ≡ counted stays end grown → going s m ≡ grow_side stays end grown search m
+  side_kept h = subst (Told (grow_side stays end grown search m)) (sym h) (told stays (ltb grown 2))
 
-      pub side_moves : {z : ℤ} {t : Meter} → going z t ≡ search m → going (side z grown) t ≡ grow_side stays end grown search m
-      side_moves k = rw (b, le-ltb grown 2 h) (bind_on search m _ k (pure_is _ _))
+  module _ (h : None ≡ counted stays end grown) where
+    sought : (search >>= (λ z. pure (side z grown))) m ≡ grow_side stays end grown search m
+    sought = subst (Told (grow_side stays end grown search m)) (sym h) (told stays (ltb grown 2))
+
+    pub side_stops : {stop : Stop} {t : Meter} → stopped stop t ≡ search m → stopped stop t ≡ grow_side stays end grown search m
+    side_stops k = bind_stop search m _ k ∙ sought
+
+    pub side_moves : {z : ℤ} {t : Meter} → going z t ≡ search m → going (side z grown) t ≡ grow_side stays end grown search m
+    side_moves k = bind_on search m _ k (pure_is _ _) ∙ sought
 
 -- ---- both sides
 

@@ -2,7 +2,7 @@
 #![tactic(auto)]
 
 ghost use Rattle.std.specs.Prelude.{◌≡◌};
-ghost use Rattle.widening.specs.Places.{first_place};
+ghost use Rattle.widening.specs.Places.{first_place, counted};
 ghost use Rattle.std.specs.Int.Signed.{le_z};
 ghost use Rattle.limits.specs.Metered.{answered};
 ghost use Rattle.widening.specs.Widening.{below, above, widen_low, widen_high, with_ends, widen, growth_at, put_growth, no_growth};
@@ -105,6 +105,22 @@ fn threshold_above(thresholds: &[i32], high: i32, meter: &mut Meter) -> Result<i
     Ok(high)
 }
 
+// A side that does not grow, or that is counted; none where it is moved to a threshold.
+fn counted(end: i32, grown: u32, stays: bool) -> Option<Side>
+    ensures { result ≡ counted stays end grown }
+{
+    if stays {
+        return Some(Side { end, grown });
+    }
+    if grown < 2 {
+        return Some(Side {
+            end,
+            grown: grown + 1,
+        });
+    }
+    None
+}
+
 // The low side: counted the first two times that it grows, and moved to a threshold later.
 fn widen_low(
     thresholds: &[i32],
@@ -115,20 +131,14 @@ fn widen_low(
 ) -> Result<Side, Stop>
     ensures { answered result meter.new ≡ widen_low thresholds.now old low grown meter.old }
 {
-    if old <= low {
-        return Ok(Side { end: low, grown });
-    }
-    if grown < 2 {
-        return Ok(Side {
-            end: low,
-            grown: grown + 1,
-        });
+    if let Some(side) = counted(low, grown, old <= low) {
+        return Ok(side);
     }
     let end = threshold_below(thresholds, low, meter)?;
     Ok(Side { end, grown })
 }
 
-// The high side. Beside the low one, since a side as a parameter reads no plainer: each comparison would ask which it is.
+// The high side.
 fn widen_high(
     thresholds: &[i32],
     old: i32,
@@ -138,14 +148,8 @@ fn widen_high(
 ) -> Result<Side, Stop>
     ensures { answered result meter.new ≡ widen_high thresholds.now old high grown meter.old }
 {
-    if high <= old {
-        return Ok(Side { end: high, grown });
-    }
-    if grown < 2 {
-        return Ok(Side {
-            end: high,
-            grown: grown + 1,
-        });
+    if let Some(side) = counted(high, grown, high <= old) {
+        return Ok(side);
     }
     let end = threshold_above(thresholds, high, meter)?;
     Ok(Side { end, grown })

@@ -1,11 +1,9 @@
 -- `results::put_bound` meets its contract.
 use native.Mathlib.Omega.{arith}
-use mathlib.Core.Path.{◌≡◌}
-use mathlib.Core.Bool.{cond}
 use Rattle.rows.proofs.CodeLaws.{bound_put}
 use Rattle.results.proofs.CodeLaws.{put_no_rule, put_no_slot, put_there}
 use Rattle.results.proofs.put_bound.Goals as goal
-use Rattle.results.proofs.put_bound.Goals.{then-after, else-after, then-id-ge-RULES-via-then-id-ge-RULES, then-id-ge-RULES-via-else-id-ge-RULES+then-slot-ge-SLOTS}
+use Rattle.results.proofs.put_bound.Goals.{then-id-ge-RULES-via-then-id-ge-RULES, then-id-ge-RULES-via-else-id-ge-RULES+then-slot-ge-SLOTS}
 
 pub returns-then-id-ge-RULES : goal.returns-then-id-ge-RULES
 returns-then-id-ge-RULES c =
@@ -16,6 +14,5 @@ returns-then-id-ge-RULES c =
 
 pub returns : goal.returns
 returns c =
-    let e : c.if-after.at ≡ cond c.args.after 4 0 = elim c.if-after.branch [ then-after w ↦ rw w.if-after.true w.at-is | else-after w ↦ rw w.if-after.false w.at-is ] in
-    put_there _ _ _ _ _ (omega arith) (omega arith) e
+    put_there _ _ _ _ _ (omega arith) (omega arith) c.bound_place-at.ensures
     (bound_put _ _ _ c.integrality_cell.ensures c.case_cell.ensures c.low_cell.ensures c.high_cell.ensures c.put_cell.ensures c.put_cell-2.ensures c.put_cell-3.ensures c.put_cell-4.ensures)

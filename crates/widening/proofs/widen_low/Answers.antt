@@ -4,24 +4,16 @@ use Rattle.std.proofs.lemmas.Int.{to_z-of_z}
 use lib.Signed.{le_z}
 use Rattle.limits.proofs.Answering.{went, broke, exits}
 use Rattle.widening.specs.Widening.{below, widen_low}
-use Rattle.widening.proofs.CodeLaws.{side_stays, side_counted, side_stops, side_moves}
+use Rattle.widening.proofs.CodeLaws.{side_kept, side_stops, side_moves}
 use Rattle.widening.proofs.widen_low.Goals as goal
 
-pub returns-then-old-low : goal.returns-then-old-low
+pub returns-in-Some : goal.returns-in-Some
 unfolding widen_low
-returns-then-old-low c =
+returns-in-Some c =
     let a = c.args in
     let o = c.ranges.old in
     let e = c.ranges.low in
-    simp to_z-of_z (side_stays (le_z c.args.old c.args.low) a.low a.grown (below a.thresholds.now a.low) a.meter.now (simp to_z-of_z at c.if-old-low.true))
-
-pub returns-then-grown-lt2 : goal.returns-then-grown-lt2
-unfolding widen_low
-returns-then-grown-lt2 c =
-    let a = c.args in
-    let o = c.ranges.old in
-    let e = c.ranges.low in
-    simp to_z-of_z (side_counted (le_z c.args.old c.args.low) a.low a.grown (below a.thresholds.now a.low) a.meter.now (simp to_z-of_z at c.if-old-low.false) c.if-grown-lt2.true)
+    side_kept (le_z a.old a.low) a.low a.grown (below a.thresholds.now a.low) a.meter.now (simp to_z-of_z at c.in-Some.ensures)
 
 pub returns-in_err-end : goal.returns-in_err-end
 unfolding widen_low
@@ -30,8 +22,7 @@ returns-in_err-end c =
     let o = c.ranges.old in
     let e = c.ranges.low in
     exits c.from_residual.result c.from_residual.ensures.1
-    (side_stops (le_z c.args.old c.args.low) a.low a.grown (below a.thresholds.now a.low) a.meter.now (simp to_z-of_z at c.if-old-low.false) c.if-grown-lt2.false
-    (simp to_z-of_z at (broke c.threshold_below.ensures c.in_err-end.was)))
+    (side_stops (le_z a.old a.low) a.low a.grown (below a.thresholds.now a.low) a.meter.now (simp to_z-of_z at c.in_default.ensures) (simp to_z-of_z at (broke c.threshold_below.ensures c.in_err-end.was)))
 
 pub returns : goal.returns
 unfolding widen_low
@@ -41,5 +32,4 @@ returns c =
     let e = c.ranges.low in
     let f : SFits w32 c.in_ok-end.end = search rules in
     simp to_z-of_z
-    (side_moves (le_z c.args.old c.args.low) a.low a.grown (below a.thresholds.now a.low) a.meter.now (simp to_z-of_z at c.if-old-low.false) c.if-grown-lt2.false
-    (simp to_z-of_z at (went c.threshold_below.ensures c.in_ok-end.was)))
+    (side_moves (le_z a.old a.low) a.low a.grown (below a.thresholds.now a.low) a.meter.now (simp to_z-of_z at c.in_default.ensures) (simp to_z-of_z at (went c.threshold_below.ensures c.in_ok-end.was)))
