@@ -20,16 +20,17 @@ uint64_t harness_seed(uint64_t, uint64_t, uint64_t, int32_t, int32_t, SLICE(uint
                       SLICE(int32_t));
 uint64_t harness_rule(SLICE(uint64_t), SLICE(uint64_t), SLICE(uint64_t), SLICE(uint32_t), SLICE(uint32_t));
 uint64_t harness_run(SLICE(uint64_t), SLICE(uint64_t), SLICE(uint32_t), SLICE(uint32_t), SLICE(uint32_t), SLICE(int32_t), SLICE(uint32_t),
-                     SLICE(uint32_t));
+                     SLICE(uint32_t), SLICE(uint32_t), SLICE(uint32_t), SLICE(uint32_t));
 uint64_t harness_read(uint64_t, uint64_t, uint64_t, SLICE(uint64_t), SLICE(uint32_t), SLICE(uint32_t));
 uint64_t harness_slot(uint64_t, uint64_t, bool, SLICE(uint64_t), SLICE(uint32_t), SLICE(uint32_t));
 uint64_t harness_key(uint64_t, SLICE(uint64_t), SLICE(uint32_t));
 uint64_t harness_name(uint64_t, SLICE(uint64_t), SLICE(uint8_t), SLICE(uint32_t), uint8_t *);
 uint64_t harness_line(uint64_t, uint64_t, uint64_t, SLICE(uint64_t), SLICE(uint32_t), SLICE(uint32_t), SLICE(uint32_t), SLICE(uint8_t));
 
-enum { HEADER, PREDICATES, NAMES, CONSTANTS, ORDER, THRESHOLDS, NODES, SEEDS, RECORDS, RULES, ARGUMENTS, SLOTS, LINE, TABLES };
-static const size_t cells[TABLES] = {34, 128, 65536, 2048, 1024, 4096, 5 * 1024, 24 * 256, 2048, 294 * 256, 24 * 256, 32768, 256};
-static const size_t widths[TABLES] = {8, 4, 1, 4, 4, 4, 8, 4, 4, 4, 4, 4, 1};
+enum { HEADER, PREDICATES, NAMES, CONSTANTS, ORDER, THRESHOLDS, NODES, SEEDS, RECORDS, RULES, ARGUMENTS, SLOTS, CURRENT, GROWTH, SCRATCH, LINE, TABLES };
+static const size_t cells[TABLES] = {34, 128, 65536, 2048, 1024, 4096, 5 * 1024, 24 * 256, 2048, 294 * 256, 24 * 256, 32768,
+                                     24 * 256, 512, 32768 + 2 * 24 * 256 + 2 * 24 * 16 + 256, 256};
+static const size_t widths[TABLES] = {8, 4, 1, 4, 4, 4, 8, 4, 4, 4, 4, 4, 4, 4, 4, 1};
 
 static uint64_t state;
 static uint64_t any(void) {
@@ -165,7 +166,8 @@ static uint64_t call(int which) {
     case 9: return harness_seed(1, id(), 0, signed_number(), signed_number(), U64(HEADER), U32(CONSTANTS), U32(SEEDS), U32(RECORDS),
                                 I32(THRESHOLDS));
     case 10: return call_rule();
-    case 11: return harness_run(U64(HEADER), U64(NODES), U32(CONSTANTS), U32(RULES), U32(SEEDS), I32(THRESHOLDS), U32(ARGUMENTS), U32(SLOTS));
+    case 11: return harness_run(U64(HEADER), U64(NODES), U32(CONSTANTS), U32(RULES), U32(SEEDS), I32(THRESHOLDS), U32(ARGUMENTS), U32(SLOTS),
+                               U32(CURRENT), U32(GROWTH), U32(SCRATCH));
     case 12: case 13: case 14: case 15: return harness_read(which - 12, id(), id(), U64(HEADER), U32(ARGUMENTS), U32(RECORDS));
     case 16: return harness_slot(id(), id(), below(2), U64(HEADER), U32(RULES), U32(SLOTS));
     case 17: return harness_key(id(), U64(HEADER), U32(CONSTANTS));

@@ -24,6 +24,9 @@ struct Design {
     rules: [u32; sizes::RULE_CELLS],
     arguments: [u32; sizes::ARGUMENT_CELLS],
     slots: [u32; sizes::BOUNDS_CELLS],
+    current: [u32; sizes::ARGUMENT_CELLS],
+    growth: [u32; sizes::GROWTH_CELLS],
+    scratch: [u32; sizes::SCRATCH_CELLS],
 }
 
 impl Design {
@@ -42,6 +45,9 @@ impl Design {
             rules: [0; sizes::RULE_CELLS],
             arguments: [0; sizes::ARGUMENT_CELLS],
             slots: [0; sizes::BOUNDS_CELLS],
+            current: [0; sizes::ARGUMENT_CELLS],
+            growth: [0; sizes::GROWTH_CELLS],
+            scratch: [0; sizes::SCRATCH_CELLS],
         }
     }
 
@@ -113,6 +119,9 @@ impl Design {
             &mut self.thresholds,
             &mut self.arguments,
             &mut self.slots,
+            &mut self.current,
+            &mut self.growth,
+            &mut self.scratch,
         )
     }
 

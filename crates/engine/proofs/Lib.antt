@@ -1,5 +1,6 @@
 pub mod Kept
 pub mod CodeLaws
+pub mod Anew
 pub mod RunLaws
 pub mod Begun
 pub mod Finished

@@ -1,2 +1,3 @@
 pub mod Run
 pub mod Call
+pub mod Lent

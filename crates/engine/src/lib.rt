@@ -1,6 +1,6 @@
-//! The run (engine.rs): it begins with the seeds, passes until one changes nothing, and ends with a last round. Its own tables are arrays
-//! that it lends to its helpers; the result tables are written once, after the last thing that can be refused. Tables that are written stay
-//! parameters, since a struct of `&mut` would have each function promise which tables its fields still are.
+//! The run (engine.rs): it begins with the seeds, passes until one changes nothing, and ends with a last round. The tables that it works in are
+//! the caller's, cut to the rows of the store; the result tables are written once, after the last thing that can be refused. Tables that are
+//! written stay parameters, since a struct of `&mut` would have each function promise which tables its fields still are.
 #![tactic(auto)]
 
 ghost use Rattle.std.specs.Prelude.{ℕ, ℤ, List, ◌≡◌, ◌+◌, ◌≤◌, length};
@@ -13,7 +13,8 @@ ghost use Rattle.thresholds.specs.Thresholds.{entry};
 ghost use Rattle.rounds.specs.Lent.{given_in};
 ghost use Rattle.rounds.specs.Round.{course};
 ghost use Rattle.engine.specs.Run.{enter_ends, start, seeded, beginning, begin, progress, ascend_and_end, finish};
-ghost use Rattle.engine.specs.Call.{read, tables, sized, results_sized, spacious, given_of, ended_in, concluded, ran_on, run_call};
+ghost use Rattle.engine.specs.Call.{read, tables, sized, results_sized, spacious, given_of, ended_in, concluded, ran_on, run_call, Working, working, working_sized, values_left, run_leaves};
+ghost use Rattle.engine.specs.Lent.{fitting};
 
 use evaluation::Input;
 use limits::{Budget, Refusal, Resource, Stop};
@@ -71,12 +72,14 @@ fn ascend_and_end(
     current: &mut [u32],
     growth: &mut [u32],
     bounds: &mut [u32],
+    scratch: &mut [u32],
     course: &mut Course,
 ) -> Result<(), Stop>
+    requires { (given.now.positions ≤ size.positions) × (length scratch.old ≡ size.pass_cells) }
     ensures { answered result (progress course.new.budget course.new.context current.new growth.new bounds.new) ≡ ascend_and_end (given_in given.now) thresholds.now (progress course.old.budget course.old.context current.old growth.old bounds.old) }
 {
-    passes::ascend(given, thresholds, current, growth, course)?;
-    results::last(given, current, bounds, course)
+    passes::ascend(given, thresholds, current, growth, scratch, course)?;
+    results::last(given, current, bounds, scratch, course)
 }
 
 // From the seeds to the result. Without rules the seeds are the result, and no round is charged.
@@ -86,14 +89,17 @@ fn finish(
     current: &mut [u32],
     growth: &mut [u32],
     bounds: &mut [u32],
+    scratch: &mut [u32],
     course: &mut Course,
 ) -> Result<(), Stop>
+    requires { (given.now.positions ≤ size.positions) × (length scratch.old ≡ size.pass_cells) }
     ensures { answered result (progress course.new.budget course.new.context current.new growth.new bounds.new) ≡ finish (given_in given.now) thresholds.now (progress course.old.budget course.old.context current.old growth.old bounds.old) }
 {
     if given.count == 0 {
-        return results::close(given, current, bounds, course);
+        let (scratch, _) = scratch.split_at_mut(sizes::LOCAL_CELLS);
+        return results::close(given, current, bounds, scratch, course);
     }
-    ascend_and_end(given, thresholds, current, growth, bounds, course)
+    ascend_and_end(given, thresholds, current, growth, bounds, scratch, course)
 }
 
 // The run of a store has ended. The caller's context stays.
@@ -184,44 +190,50 @@ fn course_of(store: &Store) -> Course
     }
 }
 
-// The run of a store that admits it.
+// The run of a store that admits it. What it works in has the rows of its arguments and its rules, and a pass's cells; what they held before is
+// read nowhere.
 fn run_open(
     store: &mut Store,
     given: &Given,
     thresholds: &mut [i32],
     arguments: &mut [u32],
     slots: &mut [u32],
+    current: &mut [u32],
+    growth: &mut [u32],
+    bounds: &mut [u32],
+    scratch: &mut [u32],
 )
-    requires { (store.old.counts.rules ≤ size.rules) × (store.old.counts.thresholds + 2 ≤ length thresholds.old) }
-    ensures { tables store.new thresholds.new arguments.new slots.new ≡ ran_on (given_in given.now) (tables store.old thresholds.old arguments.old slots.old) }
+    requires room { (store.old.counts.rules ≤ size.rules) × ((store.old.counts.thresholds + 2 ≤ length thresholds.old) × (given.now.positions ≤ size.positions)) }
+    requires cells { fitting (given_in given.now) current.old growth.old bounds.old scratch.old }
+    ensures run { tables store.new thresholds.new arguments.new slots.new ≡ ran_on (given_in given.now) (tables store.old thresholds.old arguments.old slots.old) }
+    ensures left { (current.new, growth.new) ≡ values_left (given_in given.now) (tables store.old thresholds.old arguments.old slots.old) current.old growth.old }
 {
     let mut course = course_of(store);
     let mut marks = store.counts.thresholds;
-    let mut current = [0u32; sizes::ARGUMENT_CELLS];
-    let mut growth = [0u32; sizes::GROWTH_CELLS];
-    let mut bounds = [0u32; sizes::BOUNDS_CELLS];
     let begun = begin(
         given,
         thresholds,
         &mut marks,
-        &mut current,
-        &mut growth,
+        current,
+        growth,
         &mut course.budget,
     );
     if let Err(stop) = begun {
         let phase = Phase::Stopped(stop, course.context);
         return end(store, marks, phase, course.budget);
     }
+    bounds.fill(0);
     let ran = finish(
         given,
         &thresholds[..marks],
-        &mut current,
-        &mut growth,
-        &mut bounds,
+        current,
+        growth,
+        bounds,
+        scratch,
         &mut course,
     );
     conclude(
-        store, given, &current, &bounds, arguments, slots, ran, marks, course,
+        store, given, current, bounds, arguments, slots, ran, marks, course,
     );
 }
 
@@ -243,6 +255,15 @@ fn is_result_sized(arguments: usize, slots: usize) -> bool
     arguments == sizes::ARGUMENT_CELLS && slots == sizes::BOUNDS_CELLS
 }
 
+// The sizes of the tables that a run works in.
+fn is_working_sized(current: usize, growth: usize, scratch: usize) -> bool
+    ensures { result ≡ working_sized current growth scratch }
+{
+    current == sizes::ARGUMENT_CELLS
+        && growth == sizes::GROWTH_CELLS
+        && scratch == sizes::SCRATCH_CELLS
+}
+
 // Whether the tables have the rows that the header counts, and room for both ends.
 fn has_room(counts: &Counts) -> bool
     ensures { result ≡ spacious counts.now }
@@ -253,8 +274,9 @@ fn has_room(counts: &Counts) -> bool
 }
 
 // The run. It closes the store, completed or stopped, and charges what its rounds and its result cost. Tables of other sizes than 01's and a
-// closed store meet 1, then more rows than the tables have or thresholds without room for both ends 2.
-#[tactic(auto, unfolding(crate::specs::Call::run_call))]
+// closed store meet 1, then more rows than the tables have or thresholds without room for both ends 2. Of the three tables that it works in the
+// caller need not clear any; afterwards the first two hold the current values and the growth with which it ended.
+#[tactic(auto, unfolding(crate::specs::Call::run_call, crate::specs::Call::run_leaves))]
 pub fn run(
     store: &mut Store,
     nodes: &[u64],
@@ -264,8 +286,12 @@ pub fn run(
     thresholds: &mut [i32],
     arguments: &mut [u32],
     slots: &mut [u32],
+    current: &mut [u32],
+    growth: &mut [u32],
+    scratch: &mut [u32],
 ) -> Result<(), Refusal>
-    ensures { replied result (tables store.new thresholds.new arguments.new slots.new) ≡ run_call (read nodes.now constants.now rules.now seeds.now) (tables store.old thresholds.old arguments.old slots.old) }
+    ensures run { replied result (tables store.new thresholds.new arguments.new slots.new) ≡ run_call (read nodes.now constants.now rules.now seeds.now) (working current.old growth.old scratch.old) (tables store.old thresholds.old arguments.old slots.old) }
+    ensures left { (current.new, growth.new) ≡ run_leaves (read nodes.now constants.now rules.now seeds.now) (working current.old growth.old scratch.old) (tables store.old thresholds.old arguments.old slots.old) }
 {
     if !is_sized(
         nodes.len(),
@@ -274,6 +300,7 @@ pub fn run(
         seeds.len(),
         thresholds.len(),
     ) || !is_result_sized(arguments.len(), slots.len())
+        || !is_working_sized(current.len(), growth.len(), scratch.len())
     {
         return Err(Refusal::Shape);
     }
@@ -284,6 +311,17 @@ pub fn run(
         return Err(Refusal::Full);
     }
     let given = given_of(store, nodes, constants, rules, seeds);
-    run_open(store, &given, thresholds, arguments, slots);
+    let (scratch, bounds) = scratch.split_at_mut(sizes::PASS_CELLS);
+    run_open(
+        store,
+        &given,
+        thresholds,
+        arguments,
+        slots,
+        &mut current[..sizes::VALUE_ROW * given.positions],
+        &mut growth[..sizes::GROWTH_ROW * given.positions],
+        &mut bounds[..sizes::BOUNDS_ROW * given.count],
+        scratch,
+    );
     Ok(())
 }

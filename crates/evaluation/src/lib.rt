@@ -287,6 +287,20 @@ impl Scene<'_> {
         }
     }
 
+    // An Unknown as an operand. Not inlined: its value would stand in each frame of a recursion that is 64 deep.
+    #[inline(never)]
+    fn unknown(
+        &self,
+        integer: bool,
+        reason: Widening,
+        id: u64,
+        meter: &mut Meter,
+    ) -> Result<Operand, Stop>
+        ensures { answered result meter.new ≡ sees (restrict self.now.input.constants.now (known_of self.now) id (unknown integer reason) meter.old) }
+    {
+        Ok(Operand::from(self.restrict(unknown(integer, reason), id, meter)?))
+    }
+
     // An expression as an operand. The left child comes first.
     pub fn as_operand(&self, id: u64, meter: &mut Meter) -> Result<Operand, Stop>
         ensures { answered result meter.new ≡ sees (expression (input_in self.now.input) self.now.slots.now (known_of self.now) id meter.old) }
@@ -298,10 +312,7 @@ impl Scene<'_> {
                 Ok(Operand::from(self.restrict(value, id, meter)?))
             }
             Expression::Slot(slot) => self.slot(slot as usize, id, meter),
-            Expression::Unknown(integer, reason) => {
-                let value = unknown(integer, reason);
-                Ok(Operand::from(self.restrict(value, id, meter)?))
-            }
+            Expression::Unknown(integer, reason) => self.unknown(integer, reason, id, meter),
             Expression::Unary(op, child) => {
                 let a = self.as_operand(child, meter)?;
                 let interval = operators::unary(op, a.bound.interval);

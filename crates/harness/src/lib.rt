@@ -146,10 +146,14 @@ pub extern "C" fn harness_run(
     thresholds: &mut [i32],
     arguments: &mut [u32],
     slots: &mut [u32],
+    current: &mut [u32],
+    growth: &mut [u32],
+    scratch: &mut [u32],
 ) -> u64 {
     let mut store = header::of(words);
     let answer = engine::run(
-        &mut store, nodes, constants, rules, seeds, thresholds, arguments, slots,
+        &mut store, nodes, constants, rules, seeds, thresholds, arguments, slots, current, growth,
+        scratch,
     );
     header::put(&store, words);
     code(answer)

@@ -9,7 +9,7 @@ use Rattle.store.specs.declared.Store.{Store}
 use Rattle.store.specs.Store.{fresh_of}
 use Rattle.input.specs.Input.{Tables, tables, with_header, call}
 use Rattle.input.specs.Input as input
-use Rattle.engine.specs.Call.{read, run_call}
+use Rattle.engine.specs.Call.{Working, read, run_call}
 use Rattle.engine.specs.Call as engine
 use Rattle.numeric.specs.Reading.{Reading, given, Kind, Status, argument_reading, context_count_reading, context_reading, slot_reading, key_reading, name_reading, status_reading}
 use Rattle.numeric.specs.Reading as reading
@@ -19,7 +19,8 @@ use Rattle.numeric.specs.Reading as reading
 pub data Call : Type 0 where
   -- `context` to `rule`
   store : input.Call → Call
-  run : Call
+  -- lent tables to work in, which may hold anything
+  run : Working → Call
   argument : ℕ → Call
   context_count : ℕ → Call
   context : ℕ → ℕ → Call
@@ -84,7 +85,7 @@ on_reading f s (reading.refused e) = stepped (refused e) s
 
 unfoldable pub step : Call → State → Stepped
 step (store c) s = on_store s (call c s.tables)
-step run s = on_run s (run_call (read s.tables.nodes s.tables.constants s.tables.rules s.tables.seeds) (for_run s))
+step (run w) s = on_run s (run_call (read s.tables.nodes s.tables.constants s.tables.rules s.tables.seeds) w (for_run s))
 step (argument a) s = on_reading value s (argument_reading s.tables.header s.arguments a)
 step (context_count a) s = on_reading number s (context_count_reading s.tables.header s.tables.records a)
 step (context a k) s = on_reading number s (context_reading s.tables.header s.tables.records a k)

@@ -5,4 +5,5 @@ pub mod Passing
 pub mod Ascending
 pub mod Steady
 pub mod StepLaws
+pub mod Anew
 pub mod PassLaws

@@ -1,7 +1,6 @@
 -- What a pass makes of the current values, from what it makes of each: R of an argument, its new value, and whether it has changed. Live entries
 -- are counted beside it: those of the current values, and while a pass is under way those of the candidates and of the next values.
-use Rattle.sizes.specs.Sizes as size
-use Prim.Native.Nat.{ℕ, zero, suc, ◌+◌, ◌≤◌, ◌<◌}
+use Prim.Native.Nat.{ℕ, zero, suc, ◌+◌, ◌*◌, ◌≤◌, ◌<◌}
 use native.Mathlib.Omega.{arith}
 use native.Mathlib.Decide.{dec_lt}
 use native.Mathlib.Nat.{add-zero}
@@ -21,16 +20,16 @@ use Rattle.limits.proofs.Monad.{Holds, Ensures}
 use Rattle.limits.proofs.Ends.{Ends, completes, stops, ends_pure, ends_bind, ends_through}
 use Rattle.limits.proofs.Live.{LiveIn, Lives}
 use Rattle.lattice.specs.Value.{Value}
+use Rattle.sizes.specs.Sizes.{value_row}
 use Rattle.rows.specs.Row.{entries_of, value_at, put, moved}
 use Rattle.rows.proofs.Good.{Good}
 use Rattle.rows.proofs.RowLaws.{length_put, put_back, put_other}
-use Rattle.slots.specs.Slots.{total}
+use Rattle.slots.specs.Slots.{blank, total}
 use Rattle.slots.proofs.Live.{formed_put, total_before}
 use Rattle.limits.specs.Context.{Context}
 use Rattle.lattice.specs.Lattice.{loses}
 use Rattle.widening.specs.declared.Growth.{Growth}
 use Rattle.widening.specs.Widening.{growth_at, put_growth}
-use Rattle.rounds.specs.Round.{blank}
 use Rattle.rounds.proofs.Live.{Room, blank_formed}
 use Rattle.slots.proofs.Moved.{length_moved, moved_row, moved_formed, moved_total}
 use Rattle.passes.specs.Step.{Grown, grow, Steps, steps, count_lost, advanced, advance_one, holding_next, advance}
@@ -61,19 +60,20 @@ or_right : (a b : Bool) → (a || b) ≡ false → b ≡ false
 or_right true b h = let z : ◌≡◌ {A = ℕ} 0 1 = cc in absurd (omega arith)
 or_right false b h = h
 
-module _ (thresholds : List ℤ) (current candidates : List ℕ) (R : ℕ → Value → Bool → Type 0)
+-- in a table of `size` rows
+module _ (size : ℕ) (thresholds : List ℤ) (current candidates : List ℕ) (R : ℕ → Value → Bool → Type 0)
     (each : (j width : ℕ) (g : Growth) → Advances (R j) (grow width thresholds (value_at current j) (value_at candidates j) g)) where
   -- k arguments are done
   pub record Done (e k : ℕ) (changed : Bool) (s : Steps) : Type 0 where
     pub live : s.budget.statistics.entries ≡ e + total s.next k
-    pub room : Room 256 s.next
+    pub room : Room size s.next
     pub rows : (j : ℕ) → j < k → Row (R j) (value_at s.next j) changed
 
   counted : (lost : Bool) (b : Budget) → (count_lost lost b).statistics.entries ≡ b.statistics.entries
   counted true b = refl
   counted false b = refl
 
-  one : (e k : ℕ) → k < 256 → (changed : Bool) (s : Steps) → Done e k changed s → (x : Run Stop Meter Grown) → LiveIn s.budget.statistics.entries (λ g. entries_of g.value) x →
+  one : (e k : ℕ) → k < size → (changed : Bool) (s : Steps) → Done e k changed s → (x : Run Stop Meter Grown) → LiveIn s.budget.statistics.entries (λ g. entries_of g.value) x →
       Holds (λ g. Good g.value × R k g.value g.changed) x →
       Ends (λ moved t. Done e (k + 1) (changed || moved) t) (λ _ t. t.budget.statistics.entries ≡ e + total t.next k) (advanced k (value_at current k) s x)
   unfolding total
@@ -81,7 +81,7 @@ module _ (thresholds : List ℤ) (current candidates : List ℕ) (R : ℕ → Va
       let b = with_meter m s.budget in
       let back : value_at (put s.next k g.value) k ≡ g.value = put_back s.next k g.value (omega (arith, h.room.0)) w.0.formed in
       let c : (count_lost (loses (value_at current k).values g.value.values) b).statistics.entries ≡ m.entries = counted (loses (value_at current k).values g.value.values) b in
-      let size : entries_of (value_at (put s.next k g.value) k) ≡ entries_of g.value = ap entries_of back in
+      let lists : entries_of (value_at (put s.next k g.value) k) ≡ entries_of g.value = ap entries_of back in
       completes {a = g.changed}
       {s = steps (count_lost (loses (value_at current k).values g.value.values) b) (put s.next k g.value) (put_growth s.growth k g.growth)}
       record {
@@ -101,7 +101,7 @@ module _ (thresholds : List ℤ) (current candidates : List ℕ) (R : ℕ → Va
       ]
   one e k l changed s h (stopped x m) live w = stops {s = steps (with_meter m s.budget) s.next s.growth} (omega (arith, h.live))
 
-  pub advance_ends : (e k n : ℕ) → k + n ≤ 256 → (changed : Bool) (s : Steps) → Done e k changed s →
+  pub advance_ends : (e k n : ℕ) → k + n ≤ size → (changed : Bool) (s : Steps) → Done e k changed s →
       Ends (λ c t. Done e (k + n) c t) (λ _ t. t.budget.statistics.entries ≡ e) (advance thresholds current candidates k n changed s)
   unfolding advance advance_one
   advance_ends e k zero l changed s h = ends_pure changed s (rw (add-zero k) h)
@@ -118,17 +118,19 @@ module _ (thresholds : List ℤ) (current candidates : List ℕ) (R : ℕ → Va
       (λ _ t z. z) (λ _ t z. omega arith))
       (λ moved t z. advance_ends e (k + 1) n (omega arith) (changed || moved) t z) (λ _ t z. z))
 
-  -- ---- the whole of a pass but its round
+-- ---- the whole of a pass but its round
 
-  pub renew_ends : (e n : ℕ) → n ≤ 256 → (b : Budget) (c : Context) (growth : List ℕ) → Room n current → b.statistics.entries ≡ e + total current n + total candidates n →
+module _ (thresholds : List ℤ) (current candidates : List ℕ) (R : ℕ → Value → Bool → Type 0)
+    (each : (j width : ℕ) (g : Growth) → Advances (R j) (grow width thresholds (value_at current j) (value_at candidates j) g)) where
+  pub renew_ends : (e n : ℕ) → (b : Budget) (c : Context) (growth : List ℕ) → Room n current → b.statistics.entries ≡ e + total current n + total candidates n →
       Ends (λ changed t. Passed R e n changed t) (λ _ t. (t.budget.statistics.entries ≡ e + total current n) × (t.current ≡ current)) (renew n thresholds candidates (ascent b c current growth))
   unfolding renew total
-  renew_ends e n few b c growth r q = go (advance_ends (e + total current n + total candidates n) 0 n (omega arith) false (steps b blank growth) begun)
+  renew_ends e n b c growth r q = go (advance_ends n thresholds current candidates R each (e + total current n + total candidates n) 0 n (omega arith) false (steps b (blank n) growth) begun)
     where
-      begun : Done (e + total current n + total candidates n) 0 false (steps b blank growth)
-      begun = record { live = omega arith; room = (rw (length-replicate {A = ℕ} size.argument_cells 0) (omega arith), blank_formed size.argument_cells); rows = λ j l. absurd (omega arith) }
+      begun : Done n thresholds current candidates R each (e + total current n + total candidates n) 0 false (steps b (blank n) growth)
+      begun = record { live = omega arith; room = (rw (length-replicate {A = ℕ} (value_row * n) 0) (omega arith), blank_formed (value_row * n)); rows = λ j l. absurd (omega arith) }
 
-      go : {x : Run Stop Steps Bool} → Ends (λ changed t. Done (e + total current n + total candidates n) (0 + n) changed t) (λ _ t. t.budget.statistics.entries ≡ e + total current n + total candidates n) x →
+      go : {x : Run Stop Steps Bool} → Ends (λ changed t. Done n thresholds current candidates R each (e + total current n + total candidates n) (0 + n) changed t) (λ _ t. t.budget.statistics.entries ≡ e + total current n + total candidates n) x →
           Ends (λ changed t. Passed R e n changed t) (λ _ t. (t.budget.statistics.entries ≡ e + total current n) × (t.current ≡ current)) (replaced n candidates (ascent b c current growth) x)
       go (completes {a = changed} {s = t} h) =
           let count : 0 + n ≡ n = omega arith in

@@ -14,10 +14,10 @@ use Rattle.limits.specs.declared.Meter.{Meter}
 use Rattle.limits.specs.Meter.{meter_of, with_meter}
 use Rattle.limits.proofs.Ends.{Ends, completes, stops, ends_pure, ends_as, on_bind, where_going}
 use Rattle.rows.specs.Row.{value_at}
-use Rattle.slots.specs.Slots.{total}
+use Rattle.slots.specs.Slots.{blank, total}
 use Rattle.lattice.specs.Lattice.{loses}
 use Rattle.widening.specs.Widening.{growth_at}
-use Rattle.rounds.specs.Round.{Given, course, blank, candidates}
+use Rattle.rounds.specs.Round.{Given, course, candidates}
 use Rattle.rounds.proofs.Pays.{Kept, Pays, kept_same, kept_metered, kept_released, kept_then, pays_then, candidates_pay}
 use Rattle.passes.specs.Step.{Grown, Steps, steps, count_lost, advanced, grow, advance_one, advance}
 use Rattle.passes.specs.Pass.{Ascent, ascent, replaced, renew, pass, passes, ascend}
@@ -52,7 +52,7 @@ module _ (thresholds : List ℤ) (current cs : List ℕ) where
 
 renew_keeps : (n : ℕ) (thresholds : List ℤ) (cs : List ℕ) (s : Ascent) → Ends (λ _ t. Kept s.budget t.budget) (λ _ t. Kept s.budget t.budget) (renew n thresholds cs s)
 unfolding renew
-renew_keeps n thresholds cs s = go (advance_keeps thresholds s.current cs 0 n false (steps s.budget blank s.growth))
+renew_keeps n thresholds cs s = go (advance_keeps thresholds s.current cs 0 n false (steps s.budget (blank n) s.growth))
   where
     go : {x : Run Stop Steps Bool} → Ends (Stays s.budget) (Stays s.budget) x → Ends (λ _ t. Kept s.budget t.budget) (λ _ t. Kept s.budget t.budget) (replaced n cs s x)
     go (completes {s = t} h) =

@@ -20,7 +20,8 @@ use Rattle.rows.specs.Row.{value_at, put, moved}
 use Rattle.lattice.specs.Lattice.{loses}
 use Rattle.widening.specs.Widening.{growth_at, put_growth}
 use Rattle.rounds.specs.declared.Course.{Course}
-use Rattle.rounds.specs.Round.{Given, blank, candidates}
+use Rattle.slots.specs.Slots.{blank}
+use Rattle.rounds.specs.Round.{Given, candidates}
 use Rattle.rounds.proofs.Pays.{Pays, candidates_pay}
 use Rattle.rounds.proofs.Steady.{candidates_steady}
 use Rattle.passes.specs.Step.{Grown, grow, Steps, steps, count_lost, advanced, advance_one, advance}
@@ -80,11 +81,11 @@ replaced_alike n cs s t e (stopped x u) y h = tt
 on_renew : (n : ℕ) (thresholds : List ℤ) (cs : List ℕ) → SteadyOn seen (renew n thresholds cs)
 unfolding renew
 on_renew n thresholds cs =
-    on_look {f = λ v s. replaced n cs s (advance thresholds v.1.0 cs 0 n false (steps s.budget blank s.growth))}
-    (λ v. record { same = λ s t e. replaced_alike n cs s t e (made v s) (made v t) ((on_advance thresholds v.1.0 cs 0 n false).same (steps s.budget blank s.growth) (steps t.budget blank t.growth) (λ j. ((e j).0, (blank, (e j).1.1)))) })
+    on_look {f = λ v s. replaced n cs s (advance thresholds v.1.0 cs 0 n false (steps s.budget (blank n) s.growth))}
+    (λ v. record { same = λ s t e. replaced_alike n cs s t e (made v s) (made v t) ((on_advance thresholds v.1.0 cs 0 n false).same (steps s.budget (blank n) s.growth) (steps t.budget (blank n) t.growth) (λ j. ((e j).0, (blank n, (e j).1.1)))) })
   where
     made : ℕ × (List ℕ × List ℕ) → Ascent → Run Stop Steps Bool
-    made v s = advance thresholds v.1.0 cs 0 n false (steps s.budget blank s.growth)
+    made v s = advance thresholds v.1.0 cs 0 n false (steps s.budget (blank n) s.growth)
 
 -- a round keeps the width
 on_candidates : (g : Given) (previous : List ℕ) → SteadyOn (λ c. c.budget.limits.width) (candidates g previous)

@@ -5,10 +5,10 @@ use Rattle.limits.specs.declared.Stop.{Stop}
 use Rattle.limits.specs.declared.Budget.{Budget}
 use Rattle.limits.specs.Metered.{Run, going, stopped, Metered, pure, ◌>>=◌, zoom}
 use Rattle.limits.specs.Budget.{released}
-use Rattle.slots.specs.Slots.{total}
+use Rattle.slots.specs.Slots.{blank, total}
 use Rattle.rows.specs.Row.{moved}
 use Rattle.rounds.specs.declared.Course.{Course}
-use Rattle.rounds.specs.Round.{Given, course, blank, candidates}
+use Rattle.rounds.specs.Round.{Given, course, candidates}
 use Rattle.passes.specs.Step.{Steps, steps, advance}
 
 -- what a run hands on from pass to pass: the counts, the context in force, the current values, and how often sides have grown
@@ -35,7 +35,7 @@ replaced n cs s (stopped e t) = stopped e (ascent (released (total cs n) t.budge
 
 -- each current value joined with its candidate and widened, in a table of their own
 unfoldable pub renew : ℕ → List ℤ → List ℕ → Metered Stop Ascent Bool
-renew n thresholds cs s = replaced n cs s (advance thresholds s.current cs 0 n false (steps s.budget blank s.growth))
+renew n thresholds cs s = replaced n cs s (advance thresholds s.current cs 0 n false (steps s.budget (blank n) s.growth))
 
 -- whether it has changed a bound or a list
 unfoldable pub pass : Given → List ℤ → Metered Stop Ascent Bool

@@ -3,7 +3,8 @@
 //! parameters, as in engine. A given width is a round's; what an argument's join may keep is the budget's, which is the same in a run.
 #![tactic(auto)]
 
-ghost use Rattle.std.specs.Prelude.{◌≡◌, false};
+ghost use Rattle.std.specs.Prelude.{◌≡◌, ◌≤◌, ◌*◌, length, false};
+ghost use Rattle.sizes.specs.Sizes as size;
 ghost use Rattle.limits.specs.Metered.{answered, seen};
 ghost use Rattle.lattice.specs.Value.{value_of};
 ghost use Rattle.rounds.specs.Lent.{given_in};
@@ -144,31 +145,32 @@ fn advance(
     Ok(changed)
 }
 
-// Each current value is joined with its candidate and widened; the candidates are dropped.
+// Each current value is joined with its candidate and widened, in a lent table of as many rows, whatever it held; the candidates are dropped.
 fn renew(
     thresholds: &[i32],
     candidates: &[u32],
     positions: usize,
     current: &mut [u32],
     growth: &mut [u32],
+    next: &mut [u32],
     course: &mut Course,
 ) -> Result<bool, Stop>
+    requires { length next.old ≡ size.value_row * positions }
     ensures { answered result (ascent course.new.budget course.new.context current.new growth.new) ≡ renew positions thresholds.now candidates.now (ascent course.old.budget course.old.context current.old growth.old) }
 {
-    let mut next = [0u32; sizes::ARGUMENT_CELLS];
     let advanced = advance(
         thresholds,
         current,
         candidates,
         positions,
-        &mut next,
+        next,
         growth,
         &mut course.budget,
     );
     slots::without_rows(candidates, positions, &mut course.budget);
     let changed = advanced?;
     slots::without_rows(current, positions, &mut course.budget);
-    rows::move_rows(&next, current, positions);
+    rows::move_rows(next, current, positions);
     Ok(changed)
 }
 
@@ -178,18 +180,24 @@ pub fn pass(
     thresholds: &[i32],
     current: &mut [u32],
     growth: &mut [u32],
+    scratch: &mut [u32],
     course: &mut Course,
 ) -> Result<bool, Stop>
+    requires { (given.now.positions ≤ size.positions) × (length scratch.old ≡ size.pass_cells) }
     ensures { answered result (ascent course.new.budget course.new.context current.new growth.new) ≡ pass (given_in given.now) thresholds.now (ascent course.old.budget course.old.context current.old growth.old) }
 {
-    let mut candidates = [0u32; sizes::ARGUMENT_CELLS];
-    rounds::image(given, current, &mut candidates, course)?;
+    let cells = sizes::VALUE_ROW * given.positions;
+    let (scratch, rest) = scratch.split_at_mut(sizes::LOCAL_CELLS);
+    let (candidates, rest) = rest.split_at_mut(cells);
+    let (next, _) = rest.split_at_mut(cells);
+    rounds::image(given, current, candidates, scratch, course)?;
     renew(
         thresholds,
-        &candidates,
+        candidates,
         given.positions,
         current,
         growth,
+        next,
         course,
     )
 }
@@ -200,10 +208,12 @@ pub fn ascend(
     thresholds: &[i32],
     current: &mut [u32],
     growth: &mut [u32],
+    scratch: &mut [u32],
     course: &mut Course,
 ) -> Result<(), Stop>
+    requires { (given.now.positions ≤ size.positions) × (length scratch.old ≡ size.pass_cells) }
     ensures { answered result (ascent course.new.budget course.new.context current.new growth.new) ≡ ascend (given_in given.now) thresholds.now (ascent course.old.budget course.old.context current.old growth.old) }
 {
-    while pass(given, thresholds, current, growth, course)? {}
+    while pass(given, thresholds, current, growth, scratch, course)? {}
     Ok(())
 }

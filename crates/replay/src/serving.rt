@@ -166,6 +166,9 @@ impl Session {
             &mut tables.thresholds,
             &mut tables.arguments,
             &mut tables.slots,
+            &mut tables.current,
+            &mut tables.growth,
+            &mut tables.scratch,
         );
         match answer {
             Ok(()) => self.report(),

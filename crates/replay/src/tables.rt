@@ -13,6 +13,9 @@ pub struct Tables {
     pub rules: [u32; sizes::RULE_CELLS],
     pub arguments: [u32; sizes::ARGUMENT_CELLS],
     pub slots: [u32; sizes::BOUNDS_CELLS],
+    pub current: [u32; sizes::ARGUMENT_CELLS],
+    pub growth: [u32; sizes::GROWTH_CELLS],
+    pub scratch: [u32; sizes::SCRATCH_CELLS],
 }
 
 impl Tables {
@@ -29,6 +32,9 @@ impl Tables {
             rules: [0; sizes::RULE_CELLS],
             arguments: [0; sizes::ARGUMENT_CELLS],
             slots: [0; sizes::BOUNDS_CELLS],
+            current: [0; sizes::ARGUMENT_CELLS],
+            growth: [0; sizes::GROWTH_CELLS],
+            scratch: [0; sizes::SCRATCH_CELLS],
         }
     }
 }

@@ -2,7 +2,7 @@
 //! bounds go into a table that the caller keeps until the last charge is accepted.
 #![tactic(auto)]
 
-ghost use Rattle.std.specs.Prelude.{◌≡◌, ◌<◌};
+ghost use Rattle.std.specs.Prelude.{◌≡◌, ◌<◌, ◌≤◌, length};
 ghost use Rattle.sizes.specs.Sizes as size;
 ghost use Rattle.limits.specs.Metered.{answered};
 ghost use Rattle.slots.specs.Slots.{slots};
@@ -98,22 +98,31 @@ pub fn close(
     given: &Given,
     current: &[u32],
     bounds: &mut [u32],
+    scratch: &mut [u32],
     course: &mut Course,
 ) -> Result<(), Stop>
+    requires { length scratch.old ≡ size.local_cells }
     ensures { answered result (standing course.new.budget course.new.context bounds.new) ≡ close (input_in given.now.input) given.now.rules.now given.now.count given.now.positions current.now (standing course.old.budget course.old.context bounds.old) }
 {
-    rounds::each_rule(&Bounding, given, current, bounds, course)?;
+    rounds::each_rule(&Bounding, given, current, bounds, scratch, course)?;
     course.budget.pay(Resource::Work, given.positions as u64)
 }
 
 // The last round takes the place of the current values.
-fn last_round(given: &Given, current: &mut [u32], course: &mut Course) -> Result<(), Stop>
+fn last_round(
+    given: &Given,
+    current: &mut [u32],
+    scratch: &mut [u32],
+    course: &mut Course,
+) -> Result<(), Stop>
+    requires { (given.now.positions ≤ size.positions) × (length scratch.old ≡ size.pass_cells) }
     ensures { answered result (standing course.new.budget course.new.context current.new) ≡ last_round (given_in given.now) (standing course.old.budget course.old.context current.old) }
 {
-    let mut result = [0u32; sizes::ARGUMENT_CELLS];
-    rounds::image(given, current, &mut result, course)?;
+    let (scratch, rest) = scratch.split_at_mut(sizes::LOCAL_CELLS);
+    let (result, _) = rest.split_at_mut(sizes::VALUE_ROW * given.positions);
+    rounds::image(given, current, result, scratch, course)?;
     slots::without_rows(current, given.positions, &mut course.budget);
-    rows::move_rows(&result, current, given.positions);
+    rows::move_rows(result, current, given.positions);
     Ok(())
 }
 
@@ -122,10 +131,13 @@ pub fn last(
     given: &Given,
     current: &mut [u32],
     bounds: &mut [u32],
+    scratch: &mut [u32],
     course: &mut Course,
 ) -> Result<(), Stop>
+    requires { (given.now.positions ≤ size.positions) × (length scratch.old ≡ size.pass_cells) }
     ensures { answered result (ending course.new.budget course.new.context current.new bounds.new) ≡ last (given_in given.now) (ending course.old.budget course.old.context current.old bounds.old) }
 {
-    last_round(given, current, course)?;
-    close(given, current, bounds, course)
+    last_round(given, current, scratch, course)?;
+    let (scratch, _) = scratch.split_at_mut(sizes::LOCAL_CELLS);
+    close(given, current, bounds, scratch, course)
 }

@@ -1,7 +1,8 @@
 -- What the code of rounds answers is what the definitions say, over plain variables.
 use Prim.Native.Nat.{ℕ, suc, ◌+◌, ◌-◌, ◌≤◌, ◌<◌}
 use native.Mathlib.Omega.{arith}
-use mathlib.Core.Path.{◌≡◌, refl, ap, ◌∙◌}
+use native.Mathlib.Nat.{min-le_right}
+use mathlib.Core.Path.{◌≡◌, refl, sym, ap, ◌∙◌}
 use mathlib.Core.List.{List}
 use Rattle.std.proofs.Common.{Result, Ok, Err}
 use Rattle.limits.specs.declared.Stop.{Stop}
@@ -11,11 +12,18 @@ use Rattle.limits.specs.Metered.{Run, going, stopped, answered, Metered, ◌>>�
 use Rattle.limits.specs.Meter.{meter_of, with_meter}
 use Rattle.limits.proofs.Answering.{went, broke, answered_through}
 use Rattle.limits.proofs.Onward.{Onward, onward_begins, onward_ends, then_stops, then_goes}
-use Rattle.rules.specs.Read.{context_at}
+use Rattle.rules.specs.Read.{context_at, slots_at}
 use Rattle.limits.specs.Context.{Context}
 use Rattle.slots.specs.Slots.{Slots, slots}
-use Rattle.rounds.specs.Round.{Standing, standing, in_table, set_context, each_rule}
+use Rattle.rounds.specs.declared.Course.{Course}
+use Rattle.rounds.specs.Round.{Standing, standing, in_table, set_context, each_rule, course, candidates_of}
 use Rattle.slots.specs.Lent.{in_budget}
+
+-- ---- a rule's slots fit the cells that are lent for them
+
+pub few_slots : (rules : List ℕ) (id : ℕ) → slots_at rules id ≤ 16
+unfolding slots_at
+few_slots rules id = min-le_right _ 16
 
 -- ---- a table in a budget, in a state that has both among other things
 
@@ -71,3 +79,12 @@ module _ (rules : List ℕ) (f : ℕ → Metered Stop Slots (Unit {0})) (count :
 
           pub rule_done : r ≡ Ok tt → Ruling (k + 1) (standing left force rows')
           rule_done g = then_goes entered (in_table (f k)) (each_rule rules f (k + 1) (count - (k + 1))) refl (went one g)
+
+-- ---- what a round has made of given values, where its answer is taken apart
+
+module _ {x : Result (Unit {0}) Stop} (s : Standing) {y : Run Stop Course (List ℕ)} (h : candidates_of (answered x s) ≡ y) where
+  pub made_stopped : {e : Stop} → x ≡ Err e → stopped e (course s.budget s.context) ≡ y
+  made_stopped q = ap (λ (r : Result (Unit {0}) Stop). candidates_of (answered r s)) (sym q) ∙ h
+
+  pub made_on : x ≡ Ok tt → going s.rows (course s.budget s.context) ≡ y
+  made_on q = ap (λ (r : Result (Unit {0}) Stop). candidates_of (answered r s)) (sym q) ∙ h

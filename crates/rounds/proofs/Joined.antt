@@ -15,6 +15,7 @@ use Rattle.rows.specs.WellFormed.{WellFormed}
 use Rattle.rows.proofs.RowLaws.{size_is}
 use Rattle.rules.specs.declared.Head.{Head}
 use Rattle.slots.specs.Slots.{slots, replace}
+use Rattle.refinements.specs.Refinement.{Refinement}
 use Rattle.evaluation.specs.Evaluation.{Input}
 use Rattle.transfer.specs.Transfer.{head}
 use Rattle.transfer.proofs.Live.{head_lives}
@@ -27,13 +28,13 @@ module _ (n : ℕ) (F G : List ℕ → Type 0) (W : Value → Type 0) (room : (r
   brings_join width a inside v gives = brings_replace a inside (λ old. join width old v) (λ old. live_as size_is (join_lives width old v)) F G room gives
 
   -- a head whose values are such that each of them does
-  pub brings_head : (i : Input) (produced refinements : List ℕ) (k : ℕ) (h : Head) → h.argument < n → Ensures W (head i produced refinements k h.value) →
-      ((v : Value) → W v → (rows : List ℕ) → F rows → Ensures (λ w. WellFormed w × G (put rows h.argument w)) (join i.width (value_at rows h.argument) v)) → Brings (rows_of n) F G (join_head i produced refinements k h)
+  pub brings_head : (i : Input) (produced : List ℕ) (known : List Refinement) (h : Head) → h.argument < n → Ensures W (head i produced known h.value) →
+      ((v : Value) → W v → (rows : List ℕ) → F rows → Ensures (λ w. WellFormed w × G (put rows h.argument w)) (join i.width (value_at rows h.argument) v)) → Brings (rows_of n) F G (join_head i produced known h)
   unfolding join_head join_owned
-  brings_head i produced refinements k h inside given gives = record {
+  brings_head i produced known h inside given gives = record {
     at = λ e s p q.
-        on_bind (λ t. t.meter) (λ t m. slots m t.rows) (λ t m. slots m t.rows) (λ x. x) (head i produced refinements k h.value) (join_owned i.width h.argument) s
-        (live_ends (head_lives i produced refinements k h.value) given s.meter)
+        on_bind (λ t. t.meter) (λ t m. slots m t.rows) (λ t m. slots m t.rows) (λ x. x) (head i produced known h.value) (join_owned i.width h.argument) s
+        (live_ends (head_lives i produced known h.value) given s.meter)
         (λ v m z. owned_brings v (brings_join i.width h.argument inside v (gives v z.0)) e (slots m s.rows) (omega (arith, z.1)) q)
         (λ _ m z. omega arith);
   }

@@ -1,8 +1,6 @@
 -- Live entries of a round: beside those before, the lists of its result where it completes, and none where it is stopped.
-use Rattle.sizes.specs.Sizes as size
 use Prim.Native.Nat.{ℕ, zero, suc, ◌+◌, ◌*◌, ◌≤◌, ◌<◌, ◌^◌}
 use native.Mathlib.Omega.{arith}
-use native.Mathlib.Nat.{min-le_right}
 use mathlib.Core.Path.{◌≡◌, refl, ◌∙◌}
 use mathlib.Core.List.{List, [], ◌∷◌}
 use mathlib.Core.Option.{none}
@@ -22,10 +20,13 @@ use Rattle.sizes.specs.Sizes.{value_row}
 use Rattle.rows.specs.Row.{padded, decode, value_at}
 use Rattle.rows.proofs.RowLaws.{value_formed, row_cell, length_put}
 use Rattle.rows.proofs.Good.{Good, join_good}
+use Rattle.rows.specs.WellFormed.{Proper}
 use Rattle.rules.specs.declared.Head.{Head}
 use Rattle.rules.specs.Read.{slots_at, bindings_at, guards_at, heads_at}
-use Rattle.slots.specs.Slots.{Slots, slots, total, copies}
+use Rattle.slots.specs.Slots.{Slots, slots, blank, total, copies}
 use Rattle.slots.proofs.Live.{Formed, formed_put, Held, SlotIn, copies_ends}
+use Rattle.refinements.specs.Refinement.{refinements_of}
+use Rattle.refinements.proofs.Theorems.{refinements_proper}
 use Rattle.evaluation.specs.Evaluation.{Input}
 use Rattle.guards.proofs.Live.{GuardIn}
 use Rattle.transfer.specs.Transfer.{Frame, frame, rule}
@@ -33,7 +34,6 @@ use Rattle.transfer.proofs.Live.{Filled, Lent, rule_ends, head_good}
 use Rattle.rounds.specs.Locals.{Locals, locals, fill, blank_frame, locals_of, own_locals}
 use Rattle.rounds.specs.declared.Course.{Course}
 use Rattle.rounds.specs.Round.{Given, Standing, standing, holding_rows, each_rule, join_head, apply, produce, image, course, candidates_of, candidates}
-use Rattle.rounds.specs.Round.{blank as table}
 use Rattle.limits.proofs.Charging.{charge_ends}
 use Rattle.rounds.proofs.Brings.{Brings, rows_of, held, brings_each, brings_locals, Stands, rules_keep}
 use Rattle.rounds.proofs.Joined.{brings_head}
@@ -45,10 +45,6 @@ pub record Fit (n : ℕ) (i : Input) (rules : List ℕ) (id : ℕ) : Type 0 wher
   pub heads : All (λ h. h.argument < n) (heads_at rules id)
 
 -- ---- a table that nothing stands in yet
-
-pub few_slots : (rules : List ℕ) (id : ℕ) → slots_at rules id ≤ 16
-unfolding slots_at
-few_slots rules id = min-le_right _ 16
 
 all_zero : (P : ℕ → Type 0) → P 0 → (n : ℕ) → All P (replicate n 0)
 all_zero P p zero = tt
@@ -67,12 +63,12 @@ blank_formed n i =
     let e = no_list n i in
     record { formed = value_formed (replicate n 0) i (small_zero n); tidy = record { sorted = rw e tt; small = rw e tt } }
 
-lent : (n : ℕ) (m : Meter) → n ≤ 16 → Lent n (blank_frame m)
-lent n m h = record {
-  before = rw (length-replicate {A = ℕ} (value_row * 16) 0) (omega arith);
-  after = rw (length-replicate {A = ℕ} (value_row * 16) 0) (omega arith);
-  domains = blank_formed (value_row * 16);
-  produced = blank_formed (value_row * 16);
+lent : (n : ℕ) (m : Meter) → Lent n (blank_frame n m)
+lent n m = record {
+  before = rw (length-replicate {A = ℕ} (value_row * n) 0) (omega arith);
+  after = rw (length-replicate {A = ℕ} (value_row * n) 0) (omega arith);
+  domains = blank_formed (value_row * n);
+  produced = blank_formed (value_row * n);
   refinements = small_zero 256;
 }
 
@@ -81,7 +77,7 @@ lent n m h = record {
 -- what a head reads of them
 pub record Legible (l : Locals) : Type 0 where
   pub produced : Formed l.produced
-  pub refinements : All (λ c. c < 2 ^ 32) l.refinements
+  pub known : All (λ r. Proper r.restriction) l.known
 
 module _ (i : Input) (small : All (λ c. c < 2 ^ 32) i.constants) {n : ℕ} {rules : List ℕ} {id : ℕ} (fit : Fit n i rules id) (arguments : List ℕ) (formed : Formed arguments) where
   pub fill_live : (e : ℕ) (s : Frame) → Lent (slots_at rules id) s → s.meter.entries ≡ e → Ends (λ _ t. Filled (slots_at rules id) e t) (λ _ t. t.meter.entries ≡ e) (fill i rules id arguments s)
@@ -96,11 +92,11 @@ module _ (i : Input) (small : All (λ c. c < 2 ^ 32) i.constants) {n : ℕ} {rul
 
   pub local_live : (m : Meter) → Ends (λ l k. (k.entries ≡ m.entries + held (slots_at rules id) l) × Legible l) (λ _ k. k.entries ≡ m.entries) (own_locals i rules id arguments m)
   unfolding own_locals
-  local_live m = go (fill_live m.entries (blank_frame m) (lent (slots_at rules id) m (few_slots rules id)) refl)
+  local_live m = go (fill_live m.entries (blank_frame (slots_at rules id) m) (lent (slots_at rules id) m) refl)
     where
       go : {x : Run Stop Frame ℕ} → Ends (λ _ t. Filled (slots_at rules id) m.entries t) (λ _ t. t.meter.entries ≡ m.entries) x →
           Ends (λ l k. (k.entries ≡ m.entries + held (slots_at rules id) l) × Legible l) (λ _ k. k.entries ≡ m.entries) (locals_of x)
-      go (completes {a = k} {s = t} h) = completes {a = locals t.domains t.produced t.refinements k} {s = t.meter} (omega (arith, h.live), record { produced = h.produced; refinements = h.refinements })
+      go (completes {a = k} {s = t} h) = completes {a = locals t.domains t.produced (refinements_of t.refinements k)} {s = t.meter} (omega (arith, h.live), record { produced = h.produced; known = refinements_proper t.refinements 0 k h.refinements })
       go (stops h) = stops h
 
 -- ---- one rule of a round
@@ -111,14 +107,14 @@ Room n rows = (value_row * n ≤ length rows) × Formed rows
 
 module _ (i : Input) (small : All (λ c. c < 2 ^ 32) i.constants) (n : ℕ) where
   -- a head's value joins a row
-  pub head_keeps : (l : Locals) → Legible l → (h : Head) → h.argument < n → Brings (rows_of n) (Room n) (Room n) (join_head i l.produced l.refinements l.recorded h)
+  pub head_keeps : (l : Locals) → Legible l → (h : Head) → h.argument < n → Brings (rows_of n) (Room n) (Room n) (join_head i l.produced l.known h)
   head_keeps l k h inside =
-      brings_head n (Room n) (Room n) Good (λ rows p. p.0) i l.produced l.refinements l.recorded h inside
-      (head_good i small l.produced l.refinements k.produced k.refinements l.recorded h.value)
+      brings_head n (Room n) (Room n) Good (λ rows p. p.0) i l.produced l.known h inside
+      (head_good i small l.produced k.produced l.known k.known h.value)
       (λ v w rows p.
       weaken (λ x f. (f.formed, (omega (arith, p.0, length_put rows h.argument x), formed_put rows h.argument x (omega (arith, p.0)) f p.1))) (join_good i.width (value_at rows h.argument) v (p.1 h.argument) w))
 
-  heads_keep : (l : Locals) → Legible l → (hs : List Head) → All (λ h. h.argument < n) hs → All (λ h. Brings (rows_of n) (Room n) (Room n) (join_head i l.produced l.refinements l.recorded h)) hs
+  heads_keep : (l : Locals) → Legible l → (hs : List Head) → All (λ h. h.argument < n) hs → All (λ h. Brings (rows_of n) (Room n) (Room n) (join_head i l.produced l.known h)) hs
   heads_keep l k [] q = tt
   heads_keep l k (h ∷ hs) q = (head_keeps l k h q.0, heads_keep l k hs q.1)
 
@@ -126,7 +122,7 @@ module _ (i : Input) (small : All (λ c. c < 2 ^ 32) i.constants) (n : ℕ) wher
   unfolding apply
   apply_keeps rules previous formed id fit =
       brings_locals i rules id previous Legible (local_live i small fit previous formed)
-      (λ l k. brings_each (join_head i l.produced l.refinements l.recorded) (Room n) (heads_at rules id) (heads_keep l k (heads_at rules id) fit.heads))
+      (λ l k. brings_each (join_head i l.produced l.known) (Room n) (heads_at rules id) (heads_keep l k (heads_at rules id) fit.heads))
 
 -- ---- a round
 
@@ -171,13 +167,13 @@ image_live g small fits seeds previous formed e =
     all t h = let k : 0 + g.positions ≡ g.positions = omega arith in (rw k at h.live, (omega (arith, h.room), h.formed))
 
 -- a round in a table of its own
-pub candidates_ends : (g : Given) (previous : List ℕ) (G : List ℕ → Type 0) (e : ℕ) → g.positions ≤ 256 →
+pub candidates_ends : (g : Given) (previous : List ℕ) (G : List ℕ → Type 0) (e : ℕ) →
     ((s : Standing) → value_row * g.positions ≤ length s.rows → Formed s.rows → s.budget.statistics.entries ≡ e →
     Ends (λ _ t. Stands (rows_of g.positions) e t × G t.rows) (λ _ t. t.budget.statistics.entries ≡ e) (image g previous s)) →
     (c : Course) → c.budget.statistics.entries ≡ e →
     Ends (λ rows d. (d.budget.statistics.entries ≡ e + total rows g.positions) × G rows) (λ _ d. d.budget.statistics.entries ≡ e) (candidates g previous c)
 unfolding candidates
-candidates_ends g previous G e few h c q = go (h (standing c.budget c.context table) (rw (length-replicate {A = ℕ} size.argument_cells 0) (omega arith)) (blank_formed size.argument_cells) q)
+candidates_ends g previous G e h c q = go (h (standing c.budget c.context (blank g.positions)) (rw (length-replicate {A = ℕ} (value_row * g.positions) 0) (omega arith)) (blank_formed (value_row * g.positions)) q)
   where
     go : {x : Run Stop Standing (Unit {0})} → Ends (λ _ t. Stands (rows_of g.positions) e t × G t.rows) (λ _ t. t.budget.statistics.entries ≡ e) x →
         Ends (λ rows d. (d.budget.statistics.entries ≡ e + total rows g.positions) × G rows) (λ _ d. d.budget.statistics.entries ≡ e) (candidates_of x)

@@ -13,9 +13,9 @@ use Rattle.limits.proofs.ChargeLaws.{Charges, accepted, refused, charge_does}
 use Rattle.limits.proofs.Ends.{Ends, completes, stops, ends_pure, ends_as, ends_then, ends_through, on_then, in_some_way}
 use Rattle.limits.specs.Context.{Context}
 use Rattle.rules.specs.Read.{context_at}
-use Rattle.slots.specs.Slots.{Slots, slots, total, copies}
+use Rattle.slots.specs.Slots.{Slots, slots, blank, total, copies}
 use Rattle.rounds.specs.declared.Course.{Course}
-use Rattle.rounds.specs.Round.{Given, Standing, standing, in_table, holding_rows, set_context, each_rule, apply, produce, image, blank, candidates_of, candidates}
+use Rattle.rounds.specs.Round.{Given, Standing, standing, in_table, holding_rows, set_context, each_rule, apply, produce, image, candidates_of, candidates}
 
 -- ---- of budgets
 
@@ -102,7 +102,7 @@ image_pays g previous s =
 
 pub candidates_pay : (g : Given) (previous : List ℕ) (c : Course) → Ends (λ _ d. Pays c.budget d.budget) (λ _ d. d.budget.limits ≡ c.budget.limits) (candidates g previous c)
 unfolding candidates
-candidates_pay g previous c = go (image_pays g previous (standing c.budget c.context blank))
+candidates_pay g previous c = go (image_pays g previous (standing c.budget c.context (blank g.positions)))
   where
     go : {x : Run Stop Standing (Unit {0})} → Ends (λ _ t. Pays c.budget t.budget) (λ _ t. t.budget.limits ≡ c.budget.limits) x →
         Ends (λ _ d. Pays c.budget d.budget) (λ _ d. d.budget.limits ≡ c.budget.limits) (candidates_of x)

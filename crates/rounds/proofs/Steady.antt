@@ -11,8 +11,9 @@ use Rattle.limits.proofs.Alike.{Alike, SteadyOn, on_pure, on_bind, on_then, on_t
 use Rattle.lattice.specs.Value.{Value}
 use Rattle.lattice.proofs.Steadiness.{join_steady}
 use Rattle.rules.specs.declared.Head.{Head}
-use Rattle.rules.specs.Read.{context_at, heads_at}
-use Rattle.slots.specs.Slots.{Slots}
+use Rattle.rules.specs.Read.{context_at, slots_at, heads_at}
+use Rattle.slots.specs.Slots.{Slots, blank}
+use Rattle.refinements.specs.Refinement.{Refinement, refinements_of}
 use Rattle.slots.proofs.Steady.{OnRows, on_paying, on_dropping, on_replace, on_each, on_copies}
 use Rattle.evaluation.specs.Evaluation.{Input}
 use Rattle.transfer.specs.Transfer.{Frame}
@@ -30,13 +31,13 @@ module _ (i : Input) (rules : List ℕ) (id : ℕ) (arguments : List ℕ) where
   on_fill = on_then (on_through _ _ _ _ (λ s t e. refl) (λ s t u v e _. e) (steady_on (steady_unit (work 1)))) (on_rule i rules id arguments)
 
   agree_locals : (x y : Run Stop Frame ℕ) → Alike tables x y → Agree (locals_of x) (locals_of y)
-  agree_locals (going n s) (going k t) h = λ j. record { domains = (h.1 j).0; produced = (h.1 j).1.0; refinements = (h.1 j).1.1; recorded = h.0 j }
+  agree_locals (going n s) (going k t) h = λ j. record { domains = (h.1 j).0; produced = (h.1 j).1.0; known = refinements_of (h.1 j).1.1 (h.0 j) }
   agree_locals (going n s) (stopped e t) h = tt
   agree_locals (stopped e s) y h = tt
 
   pub local_steady : Steady (own_locals i rules id arguments)
   unfolding own_locals
-  local_steady = record { same = λ s t. agree_locals (fill i rules id arguments (blank_frame s)) (fill i rules id arguments (blank_frame t)) (on_fill.same (blank_frame s) (blank_frame t) refl) }
+  local_steady = let n = slots_at rules id in record { same = λ s t. agree_locals (fill i rules id arguments (blank_frame n s)) (fill i rules id arguments (blank_frame n t)) (on_fill.same (blank_frame n s) (blank_frame n t) refl) }
 
   pub on_locals : {m : Locals → Metered Stop Slots (Unit {0})} → ((l : Locals) → OnRows (m l)) → OnRows (with_locals i rules id arguments m)
   unfolding with_locals
@@ -48,13 +49,13 @@ pub on_join : (width argument : ℕ) (v : Value) → OnRows (join_owned width ar
 unfolding join_owned
 on_join width argument v = on_dropping v (on_replace argument (λ old. join_steady width old v))
 
-pub on_head : (i : Input) (produced refinements : List ℕ) (n : ℕ) (h : Head) → OnRows (join_head i produced refinements n h)
+pub on_head : (i : Input) (produced : List ℕ) (known : List Refinement) (h : Head) → OnRows (join_head i produced known h)
 unfolding join_head
-on_head i produced refinements n h = on_bind (on_paying (head_steady i produced refinements n h.value)) (λ v. on_join i.width h.argument v)
+on_head i produced known h = on_bind (on_paying (head_steady i produced known h.value)) (λ v. on_join i.width h.argument v)
 
 pub on_apply : (i : Input) (rules previous : List ℕ) (id : ℕ) → OnRows (apply i rules previous id)
 unfolding apply
-on_apply i rules previous id = on_locals i rules id previous (λ l. on_each (on_head i l.produced l.refinements l.recorded) (heads_at rules id))
+on_apply i rules previous id = on_locals i rules id previous (λ l. on_each (on_head i l.produced l.known) (heads_at rules id))
 
 -- ---- in a run, where the context in force is not looked at either
 
@@ -90,4 +91,4 @@ unfolding candidates
 candidates_steady g previous = record { same = λ s t. agree_candidates (image g previous (begun s)) (image g previous (begun t)) ((on_image g previous).same (begun s) (begun t) refl) }
   where
     begun : Course → Standing
-    begun c = rounds.standing c.budget c.context rounds.blank
+    begun c = rounds.standing c.budget c.context (blank g.positions)

@@ -6,33 +6,34 @@ use Rattle.limits.specs.Metered.{Run, going, stopped, Metered, ◌>>=◌, ◌>>�
 use Rattle.limits.specs.declared.Meter.{Meter}
 use Rattle.limits.specs.Meter.{work}
 use Rattle.rules.specs.Read.{slots_at}
-use Rattle.slots.specs.Slots.{Slots, total, fewer, paying}
+use Rattle.slots.specs.Slots.{Slots, blank, total, fewer, paying}
+use Rattle.refinements.specs.Refinement.{Refinement, refinements_of}
 use Rattle.evaluation.specs.Evaluation.{Input}
 use Rattle.transfer.specs.Transfer.{Frame, frame, rule}
 
+-- their values before guards and after them, and what guards have recorded
 pub record Locals : Type 0 where
   pub domains : List ℕ
   pub produced : List ℕ
-  pub refinements : List ℕ
-  pub recorded : ℕ
+  pub known : List Refinement
 
-abbrev pub locals : List ℕ → List ℕ → List ℕ → ℕ → Locals
-locals d p r n = record { domains = d; produced = p; refinements = r; recorded = n }
+abbrev pub locals : List ℕ → List ℕ → List Refinement → Locals
+locals d p k = record { domains = d; produced = p; known = k }
 
 -- into tables as they stand
 unfoldable pub fill : Input → List ℕ → ℕ → List ℕ → Metered Stop Frame ℕ
 fill i rules id arguments = zoom (λ s. s.meter) (λ m s. frame m s.domains s.produced s.refinements) (work 1) >> rule i rules id arguments
 
--- in blank tables
-abbrev pub blank_frame : Meter → Frame
-blank_frame m = frame m (replicate size.slot_cells 0) (replicate size.slot_cells 0) (replicate size.refinement_cells 0)
+-- in tables of n slots of their own
+abbrev pub blank_frame : ℕ → Meter → Frame
+blank_frame n m = frame m (blank n) (blank n) (replicate size.refinement_cells 0)
 
 abbrev pub locals_of : Run Stop Frame ℕ → Run Stop Meter Locals
-locals_of (going n f) = going (locals f.domains f.produced f.refinements n) f.meter
+locals_of (going n f) = going (locals f.domains f.produced (refinements_of f.refinements n)) f.meter
 locals_of (stopped e f) = stopped e f.meter
 
 unfoldable pub own_locals : Input → List ℕ → ℕ → List ℕ → Metered Stop Meter Locals
-own_locals i rules id arguments m = locals_of (fill i rules id arguments (blank_frame m))
+own_locals i rules id arguments m = locals_of (fill i rules id arguments (blank_frame (slots_at rules id) m))
 
 -- the first n rows of both tables are dropped
 abbrev pub drop_locals : ℕ → List ℕ → List ℕ → Slots → Slots

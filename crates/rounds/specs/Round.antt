@@ -1,6 +1,5 @@
 -- `round` and `image` of engine.rs: all rules applied to given values, their heads joined into a copy of the seeds.
-use Rattle.std.specs.Prelude.{ℕ, zero, suc, ◌+◌, List, replicate}
-use Rattle.sizes.specs.Sizes as size
+use Rattle.std.specs.Prelude.{ℕ, zero, suc, ◌+◌, List}
 use Rattle.limits.specs.declared.Stop.{Stop}
 use Rattle.limits.specs.declared.Budget.{Budget}
 use Rattle.limits.specs.Metered.{Run, going, stopped, Metered, pure, ◌>>=◌, ◌>>◌, on_stop, zoom}
@@ -11,7 +10,8 @@ use Rattle.lattice.specs.Lattice.{join}
 use Rattle.limits.specs.Context.{Context}
 use Rattle.rules.specs.declared.Head.{Head}
 use Rattle.rules.specs.Read.{context_at, heads_at}
-use Rattle.slots.specs.Slots.{Slots, slots, total, paying, dropping, replace, each, copies}
+use Rattle.slots.specs.Slots.{Slots, slots, blank, total, paying, dropping, replace, each, copies}
+use Rattle.refinements.specs.Refinement.{Refinement}
 use Rattle.evaluation.specs.Evaluation.{Input}
 use Rattle.transfer.specs.Transfer.{head}
 use Rattle.rounds.specs.declared.Course.{Course}
@@ -64,13 +64,13 @@ each_rule rules f k (suc n) = set_context (context_at rules k) >> in_table (f k)
 unfoldable pub join_owned : ℕ → ℕ → Value → Metered Stop Slots (Unit {0})
 join_owned width argument v = dropping v (replace argument (λ old. join width old v))
 
--- under the first n refinements
-unfoldable pub join_head : Input → List ℕ → List ℕ → ℕ → Head → Metered Stop Slots (Unit {0})
-join_head i produced refinements n h = paying (head i produced refinements n h.value) >>= join_owned i.width h.argument
+-- under what the guards have recorded
+unfoldable pub join_head : Input → List ℕ → List Refinement → Head → Metered Stop Slots (Unit {0})
+join_head i produced known h = paying (head i produced known h.value) >>= join_owned i.width h.argument
 
 -- one rule of a round
 unfoldable pub apply : Input → List ℕ → List ℕ → ℕ → Metered Stop Slots (Unit {0})
-apply i rules previous id = with_locals i rules id previous (λ l. each (join_head i l.produced l.refinements l.recorded) (heads_at rules id))
+apply i rules previous id = with_locals i rules id previous (λ l. each (join_head i l.produced l.known) (heads_at rules id))
 
 -- ---- a round
 
@@ -87,14 +87,10 @@ image g previous = charging round >> produce g previous
 abbrev pub course : Budget → Context → Course
 course b c = record { budget = b; context = c }
 
--- a table for the values of 256 arguments
-abbrev pub blank : List ℕ
-blank = replicate size.argument_cells 0
-
 abbrev pub candidates_of : Run Stop Standing (Unit {0}) → Run Stop Course (List ℕ)
 candidates_of (going tt s) = going s.rows (course s.budget s.context)
 candidates_of (stopped e s) = stopped e (course s.budget s.context)
 
 -- what a round makes of given values
 unfoldable pub candidates : Given → List ℕ → Metered Stop Course (List ℕ)
-candidates g previous c = candidates_of (image g previous (standing c.budget c.context blank))
+candidates g previous c = candidates_of (image g previous (standing c.budget c.context (blank g.positions)))

@@ -2,17 +2,18 @@
 //! slots stand in tables of its own application and are dropped with it; where a round is stopped, nothing of its result stays live.
 #![tactic(auto)]
 
-ghost use Rattle.std.specs.Prelude.{ℕ, ◌≡◌};
+ghost use Rattle.std.specs.Prelude.{ℕ, ◌≡◌, ◌*◌, length};
 ghost use Rattle.sizes.specs.Sizes as size;
 ghost use Rattle.limits.specs.declared.Stop.{Stop};
 ghost use Rattle.limits.specs.Metered.{Metered, answered};
 ghost use Rattle.lattice.specs.Value.{value_of};
 ghost use Rattle.slots.specs.Slots.{Slots, slots, replace, after_unit, each};
 ghost use Rattle.lattice.specs.Lattice.{join};
+ghost use Rattle.refinements.specs.Refinement.{refinements_of};
 ghost use Rattle.evaluation.specs.Operands.{input_in};
 ghost use Rattle.transfer.specs.Transfer.{frame};
 ghost use Rattle.rounds.specs.Locals.{Locals, fill, with_locals};
-ghost use Rattle.rounds.specs.Round.{Given, standing, join_owned, join_head, each_rule, produce, image};
+ghost use Rattle.rounds.specs.Round.{Given, standing, join_owned, join_head, each_rule, produce, candidates_of, candidates};
 ghost use Rattle.rounds.specs.Lent.{given_in, locals_in, joining};
 
 use evaluation::Input;
@@ -87,40 +88,45 @@ fn fill(
     )
 }
 
-// One rule of a walk: its slots, and what is done with them. They are dropped whichever way that ends.
+// One rule of a walk: its slots, and what is done with them. They stand in as many of the lent cells as the rule has slots, whatever the cells
+// held, and are dropped whichever way that ends.
 fn with_locals<T: Task>(
     task: &T,
     given: &Given,
     arguments: &[u32],
     table: &mut [u32],
+    scratch: &mut [u32],
     id: usize,
     meter: &mut Meter,
 ) -> Result<(), Stop>
+    requires { length scratch.old ≡ size.local_cells }
     ensures { answered result (slots meter.new table.new) ≡ with_locals (input_in given.now.input) given.now.rules.now id arguments.now (T.does task.now (given_in given.now) id) (slots meter.old table.old) }
 {
-    let mut domains = [0u32; sizes::SLOT_CELLS];
-    let mut produced = [0u32; sizes::SLOT_CELLS];
-    let mut refinements = [0u32; sizes::REFINEMENT_CELLS];
+    let count = rules::slots_at(given.rules, id) as usize;
+    let (refinements, rest) = scratch.split_at_mut(sizes::REFINEMENT_CELLS);
+    let (domains, rest) = rest.split_at_mut(sizes::VALUE_ROW * count);
+    let (produced, _) = rest.split_at_mut(sizes::VALUE_ROW * count);
+    // Their number shows once more, for the compiler: it then knows it in the search through them.
+    let refinements = &mut refinements[..sizes::REFINEMENT_CELLS];
     let recorded = fill(
         &given.input,
         given.rules,
         arguments,
-        &mut domains,
-        &mut produced,
-        &mut refinements,
+        domains,
+        produced,
+        refinements,
         id,
         meter,
     )?;
     let locals = Locals {
-        domains: &domains,
-        produced: &produced,
-        refinements: &refinements,
+        domains,
+        produced,
+        refinements,
         recorded,
     };
     let done = task.apply(given, &locals, table, id, meter);
-    let count = rules::slots_at(given.rules, id) as usize;
-    slots::drop_rows(&produced, count, meter);
-    slots::drop_rows(&domains, count, meter);
+    slots::drop_rows(produced, count, meter);
+    slots::drop_rows(domains, count, meter);
     done
 }
 
@@ -130,14 +136,16 @@ pub fn each_rule<T: Task>(
     given: &Given,
     arguments: &[u32],
     table: &mut [u32],
+    scratch: &mut [u32],
     course: &mut Course,
 ) -> Result<(), Stop>
+    requires { length scratch.old ≡ size.local_cells }
     ensures { answered result (standing course.new.budget course.new.context table.new) ≡ each_rule given.now.rules.now (λ id. with_locals (input_in given.now.input) given.now.rules.now id arguments.now (T.does task.now (given_in given.now) id)) 0 given.now.count (standing course.old.budget course.old.context table.old) }
 {
     for id in 0..given.count {
         course.context = rules::context_at(given.rules, id);
         let mut meter = course.budget.meter();
-        let done = with_locals(task, given, arguments, table, id, &mut meter);
+        let done = with_locals(task, given, arguments, table, scratch, id, &mut meter);
         course.budget.settle(meter);
         done?;
     }
@@ -184,7 +192,7 @@ fn join_head(
     head: Head,
     meter: &mut Meter,
 ) -> Result<(), Stop>
-    ensures { answered result (slots meter.new res.new) ≡ after_unit (join_head (input_in input.now) locals.now.produced.now locals.now.refinements.now locals.now.recorded head) (slots meter.old res.old) }
+    ensures { answered result (slots meter.new res.new) ≡ after_unit (join_head (input_in input.now) locals.now.produced.now (refinements_of locals.now.refinements.now locals.now.recorded) head) (slots meter.old res.old) }
 {
     meter.work(1)?;
     let value = transfer::head(
@@ -228,27 +236,31 @@ fn produce(
     given: &Given,
     previous: &[u32],
     res: &mut [u32],
+    scratch: &mut [u32],
     course: &mut Course,
 ) -> Result<(), Stop>
+    requires { length scratch.old ≡ size.local_cells }
     ensures { answered result (standing course.new.budget course.new.context res.new) ≡ produce (given_in given.now) previous.now (standing course.old.budget course.old.context res.old) }
 {
     slots::copy_in(given.seeds, res, given.positions, &mut course.budget)?;
-    let joined = each_rule(&Joining, given, previous, res, course);
+    let joined = each_rule(&Joining, given, previous, res, scratch, course);
     if joined.is_err() {
         slots::without_rows(res, given.positions, &mut course.budget);
     }
     joined
 }
 
-// One round: the rules applied to the previous values.
+// One round: the rules applied to the previous values, in a lent table of as many rows as there are arguments, whatever it held.
 pub fn image(
     given: &Given,
     previous: &[u32],
     res: &mut [u32],
+    scratch: &mut [u32],
     course: &mut Course,
 ) -> Result<(), Stop>
-    ensures { answered result (standing course.new.budget course.new.context res.new) ≡ image (given_in given.now) previous.now (standing course.old.budget course.old.context res.old) }
+    requires { (length res.old ≡ size.value_row * given.now.positions) × (length scratch.old ≡ size.local_cells) }
+    ensures { candidates_of (answered result (standing course.new.budget course.new.context res.new)) ≡ candidates (given_in given.now) previous.now course.old }
 {
     course.budget.pay(Resource::Rounds, 1)?;
-    produce(given, previous, res, course)
+    produce(given, previous, res, scratch, course)
 }

@@ -195,3 +195,15 @@ refinement_cells = refinement_row * refinements
 -- the bounds of all rules' slots
 abbrev pub bounds_cells : ℕ
 bounds_cells = bounds_row * rules
+
+-- what a run works in, and no later call reads. Of one rule: its slots before guards and after them, and what its guards record
+abbrev pub local_cells : ℕ
+local_cells = 2 * slot_cells + refinement_cells
+
+-- of a pass: the candidates, the next values, and what a rule needs
+abbrev pub pass_cells : ℕ
+pass_cells = 2 * argument_cells + local_cells
+
+-- of a run: the bounds of the rules' slots, until the run completes, and what a pass needs
+abbrev pub scratch_cells : ℕ
+scratch_cells = bounds_cells + pass_cells

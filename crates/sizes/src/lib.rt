@@ -140,3 +140,12 @@ pub const REFINEMENT_CELLS: usize = REFINEMENT_ROW * REFINEMENTS;
 
 // The bounds of all rules' slots.
 pub const BOUNDS_CELLS: usize = BOUNDS_ROW * RULES;
+
+// What a run works in, and no later call reads. Of one rule: its slots before guards and after them, and what its guards record.
+pub const LOCAL_CELLS: usize = 2 * SLOT_CELLS + REFINEMENT_CELLS;
+
+// Of a pass: the candidates, the next values, and what a rule needs.
+pub const PASS_CELLS: usize = 2 * ARGUMENT_CELLS + LOCAL_CELLS;
+
+// Of a run: the bounds of the rules' slots, until the run completes, and what a pass needs.
+pub const SCRATCH_CELLS: usize = BOUNDS_CELLS + PASS_CELLS;

@@ -1,5 +1,6 @@
 -- The values of a rule's slots, before guards and after (`domains` and `produced` of transfer.rs): rows of a table, changed one by one.
-use Rattle.std.specs.Prelude.{ℕ, zero, suc, ◌+◌, List, [], ◌∷◌}
+use Rattle.std.specs.Prelude.{ℕ, zero, suc, ◌+◌, ◌*◌, List, [], ◌∷◌, replicate}
+use Rattle.sizes.specs.Sizes as size
 use Rattle.std.proofs.Math.Option.{Option, some, none}
 use Rattle.limits.specs.declared.Stop.{Stop}
 use Rattle.limits.specs.Metered.{Run, going, stopped, Metered, pure, ◌>>=◌, ◌>>◌, on_stop, finally, zoom}
@@ -21,6 +22,10 @@ pub record Slots : Type 0 where
 
 abbrev pub slots : Meter → List ℕ → Slots
 slots m t = record { meter = m; rows = t }
+
+-- a table of n rows that nothing has been written into
+abbrev pub blank : ℕ → List ℕ
+blank n = replicate (size.value_row * n) 0
 
 abbrev pub paying : {A : Type 0} → Metered Stop Meter A → Metered Stop Slots A
 paying = zoom (λ s. s.meter) (λ m s. slots m s.rows)

@@ -16,6 +16,7 @@ use Rattle.rules.specs.Read.{slots_at, bindings_at, guards_at}
 use Rattle.producers.specs.Producer.{scope}
 use Rattle.producers.proofs.Scoped.{Scoped, BindingIn, GuardIn}
 use Rattle.slots.specs.Slots.{slots}
+use Rattle.refinements.specs.Refinement.{Refinement}
 use Rattle.evaluation.specs.Evaluation.{Input}
 use Rattle.bindings.specs.Bindings as bindings
 use Rattle.guards.specs.Guards.{local}
@@ -24,9 +25,9 @@ use Rattle.transfer.specs.Transfer.{Frame, in_domains, guarding, rule, head}
 use Rattle.soundness.specs.Plain.{Choice, into, BindingHolds, GuardHolds, AllHold}
 use Rattle.soundness.specs.Tied.{plain_binding, plain_guard}
 use Rattle.soundness.proofs.Worth.{Scene, ProperChoice, proper_into}
-use Rattle.soundness.proofs.Evaluating.{Sound, expression_sound}
+use Rattle.soundness.proofs.Evaluating.{Sound, expression_sound, Holds}
 use Rattle.soundness.proofs.Binding.{Held, held_slots, Among, bind_sound}
-use Rattle.soundness.proofs.Guarding.{Known, known_all, Fits, guards_keep}
+use Rattle.soundness.proofs.Guarding.{Known, Fits, guards_keep}
 
 -- what stands while a rule is applied: constants of 32 bits, and values of the first `count` arguments that their rows hold exactly
 pub record Setting (w : Scene) (expressions count : ℕ) (arguments : List ℕ) : Type 0 where
@@ -67,7 +68,7 @@ module _ (w : Scene) (expressions count width : ℕ) (arguments : List ℕ) (t :
         (λ _ _ _. tt)
 
   -- what a head is worth in the firing lies in what `head` gives; one that is worth nothing asks for nothing
-  pub head_sound : (n k : ℕ) (produced refinements : List ℕ) → Held w n produced → Known w k refinements → (id : ℕ) → Scoped (scope w.nodes expressions n) id →
-      Ensures (Sound w id) (head over produced refinements k id)
+  pub head_sound : (n : ℕ) (produced : List ℕ) → Held w n produced → (known : List Refinement) → All (Holds w) known → (id : ℕ) → Scoped (scope w.nodes expressions n) id →
+      Ensures (Sound w id) (head over produced known id)
   unfolding head
-  head_sound n k produced refinements h known id sc = expression_sound w t.small expressions n width produced (held_slots h) _ (known_all known) id sc
+  head_sound n produced h known holds id sc = expression_sound w t.small expressions n width produced (held_slots h) known holds id sc

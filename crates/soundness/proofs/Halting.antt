@@ -35,7 +35,8 @@ use Rattle.store.specs.declared.Phase.TheVariants.{Absent, Open, Completed, Stop
 use Rattle.store.specs.Store.{empty, fresh_of}
 use Rattle.rules.specs.declared.Head.{Head}
 use Rattle.rules.specs.Read.{slots_at, heads_at}
-use Rattle.slots.specs.Slots.{Slots}
+use Rattle.slots.specs.Slots.{Slots, blank}
+use Rattle.refinements.specs.Refinement.{Refinement}
 use Rattle.evaluation.specs.Evaluation.{Input}
 use Rattle.transfer.specs.Transfer.{Frame}
 use Rattle.widening.specs.declared.Growth.{Growth}
@@ -43,12 +44,12 @@ use Rattle.widening.specs.Widening.{nearest, below, above, widen_low, widen_high
 use Rattle.widening.specs.Widening as widening
 use Rattle.rounds.specs.Locals.{Locals, fill, locals_of, own_locals, with_locals}
 use Rattle.rounds.specs.Locals as locals
-use Rattle.rounds.specs.Round.{Given, Standing, standing, each_rule, join_owned, join_head, apply, produce, image, blank, candidates_of, candidates}
+use Rattle.rounds.specs.Round.{Given, Standing, standing, each_rule, join_owned, join_head, apply, produce, image, candidates_of, candidates}
 use Rattle.passes.specs.Step.{Grown, within, with_change, widen_value, grow, Steps, steps, advanced, advance_one, advance}
 use Rattle.passes.specs.Pass.{Ascent, replaced, renew, pass, passes, ascend}
 use Rattle.results.specs.Result.{keep_bounds, keep_both, bound, close, last_round, closing, last}
 use Rattle.engine.specs.Run.{Beginning, enter_ends, seeded, begin, Progress, ascend_and_end, finish}
-use Rattle.engine.specs.Call.{Read, read, Tables, tables, given_of, concluded, finished, ran_on, run_call}
+use Rattle.engine.specs.Call.{Read, read, Working, Tables, tables, given_of, concluded, finished, ran_on, run_call}
 use Rattle.input.specs.Input.{Call, Reply, Typed, call, left, played}
 use Rattle.input.specs.Input as input
 use Rattle.input.proofs.Reached.{Sized, Reached, fresh_reached}
@@ -83,20 +84,20 @@ locals_halt (stops h) = stops h
 module _ (i : Input) (rules : List ℕ) (id : ℕ) (arguments : List ℕ) where
   local_halts : Frugal (own_locals i rules id arguments)
   unfolding own_locals fill
-  local_halts = record { at = λ m. locals_halt ((halts_then (halts_through _ _ _ (works 1)) (rule_halts i rules id arguments)).at (locals.blank_frame m)) }
+  local_halts = record { at = λ m. locals_halt ((halts_then (halts_through _ _ _ (works 1)) (rule_halts i rules id arguments)).at (locals.blank_frame (slots_at rules id) m)) }
 
   with_locals_lem : {m : Locals → Metered Stop Slots (Unit {0})} → ((l : Locals) → Frugal (m l)) → Frugal (with_locals i rules id arguments m)
   unfolding with_locals
   with_locals_lem h = halts_bind (halts_through _ _ _ local_halts) (λ l. halts_through _ _ _ (h l))
 
-join_head_lem : (i : Input) (produced refinements : List ℕ) (n : ℕ) (h : Head) → Frugal (join_head i produced refinements n h)
+join_head_lem : (i : Input) (produced : List ℕ) (known : List Refinement) (h : Head) → Frugal (join_head i produced known h)
 unfolding join_head join_owned
-join_head_lem i produced refinements n h =
-    halts_bind (halts_through _ _ _ (head_halts i produced refinements n h.value)) (λ v. halts_through _ _ _ (replace_halts h.argument (λ old. join_halts i.width old v)))
+join_head_lem i produced known h =
+    halts_bind (halts_through _ _ _ (head_halts i produced known h.value)) (λ v. halts_through _ _ _ (replace_halts h.argument (λ old. join_halts i.width old v)))
 
 apply_halts : (i : Input) (rules previous : List ℕ) (id : ℕ) → Frugal (apply i rules previous id)
 unfolding apply
-apply_halts i rules previous id = with_locals_lem i rules id previous (λ l. each_halts (join_head_lem i l.produced l.refinements l.recorded) (heads_at rules id))
+apply_halts i rules previous id = with_locals_lem i rules id previous (λ l. each_halts (join_head_lem i l.produced l.known) (heads_at rules id))
 
 each_rule_lem : (rules : List ℕ) (f : ℕ → Metered Stop Slots (Unit {0})) → ((id : ℕ) → Frugal (f id)) → (k n : ℕ) → Frugal (each_rule rules f k n)
 unfolding each_rule
@@ -119,7 +120,7 @@ candidates_of_lem (stops h) = stops h
 
 pub candidates_halt : (g : Given) (previous : List ℕ) → Halts RoundResource (candidates g previous)
 unfolding candidates
-candidates_halt g previous = record { at = λ c. candidates_of_lem ((image_halts g previous).at (standing c.budget c.context blank)) }
+candidates_halt g previous = record { at = λ c. candidates_of_lem ((image_halts g previous).at (standing c.budget c.context (blank g.positions))) }
 
 -- ---- widening, and one argument of a pass
 
@@ -176,7 +177,7 @@ replaced_halts n cs s (stops h) = stops h
 
 renew_halts : (n : ℕ) (thresholds : List ℤ) (cs : List ℕ) → Frugal (renew n thresholds cs)
 unfolding renew
-renew_halts n thresholds cs = record { at = λ s. replaced_halts n cs s ((advance_halts thresholds s.current cs 0 n _).at (steps s.budget blank s.growth)) }
+renew_halts n thresholds cs = record { at = λ s. replaced_halts n cs s ((advance_halts thresholds s.current cs 0 n _).at (steps s.budget (blank n) s.growth)) }
 
 module _ (g : Given) (thresholds : List ℤ) where
   pass_halts : Halts RoundResource (pass g thresholds)
@@ -302,14 +303,20 @@ module _ (r : Read) (t : Tables) where
 abbrev pub given : input.Tables → Read
 given t = read t.nodes t.constants t.rules t.seeds
 
+-- tables to work in, of the sizes that it asks for, which may hold anything
+pub record Fitting (w : Working) : Type 0 where
+  pub current : length w.current ≡ size.argument_cells
+  pub growth : length w.growth ≡ size.growth_cells
+  pub scratch : length w.scratch ≡ size.scratch_cells
+
 -- and what it is lent
 abbrev pub lent : input.Tables → List ℕ → List ℕ → Tables
 lent t arguments slots = tables t.header t.thresholds arguments slots
 
 module _ (t : input.Tables) (reached : Reached t) (opened : t.header.phase ≡ Open)
-    (arguments slots : List ℕ) (wide : length arguments ≡ size.argument_cells) (long : length slots ≡ size.bounds_cells) where
+    (arguments slots : List ℕ) (wide : length arguments ≡ size.argument_cells) (long : length slots ≡ size.bounds_cells) (w : Working) (fit : Fitting w) where
   -- it is not turned down
-  pub run_taken : run_call (given t) (lent t arguments slots) ≡ going tt (ran_on (given_of (given t) t.header) (lent t arguments slots))
+  pub run_taken : run_call (given t) w (lent t arguments slots) ≡ going tt (ran_on (given_of (given t) t.header) (lent t arguments slots))
   unfolding run_call
   run_taken =
       rw (
@@ -320,6 +327,9 @@ module _ (t : input.Tables) (reached : Reached t) (opened : t.header.phase ≡ O
         eq-eqb (length t.thresholds) size.thresholds reached.sized.thresholds,
         eq-eqb (length arguments) size.argument_cells wide,
         eq-eqb (length slots) size.bounds_cells long,
+        eq-eqb (length w.current) size.argument_cells fit.current,
+        eq-eqb (length w.growth) size.growth_cells fit.growth,
+        eq-eqb (length w.scratch) size.scratch_cells fit.scratch,
         opened,
         le-leb t.header.counts.positions 256 reached.counted.positions,
         le-leb t.header.counts.rules 256 reached.counted.rules,
@@ -328,7 +338,7 @@ module _ (t : input.Tables) (reached : Reached t) (opened : t.header.phase ≡ O
       refl
 
   -- and completes, or stops with one of the four
-  pub run_halts : Ends (λ _ u. EndsWell u.header.phase) (λ _ _. ⊥) (run_call (given t) (lent t arguments slots))
+  pub run_halts : Ends (λ _ u. EndsWell u.header.phase) (λ _ _. ⊥) (run_call (given t) w (lent t arguments slots))
   run_halts = rw run_taken (completes (ran_ends (given t) (lent t arguments slots)))
 
 -- ---- calls one after another
@@ -359,7 +369,7 @@ fresh_ready l t e z = record { reached = fresh_reached l t e z; opened = go (leb
 
 -- whatever calls came before, answered or refused: the run of a fresh store is taken, and completes or stops with 3, 8, 9 or 10
 pub played_halts : (l : Limits) (t : input.Tables) → fresh_of l ≡ going tt t.header → Sized t → (cs : List Call) → All Typed cs →
-    (arguments slots : List ℕ) → length arguments ≡ size.argument_cells → length slots ≡ size.bounds_cells →
-    let u = played t cs in Ends (λ _ v. EndsWell v.header.phase) (λ _ _. ⊥) (run_call (given u) (lent u arguments slots))
-played_halts l t e z cs h arguments slots wide long =
-    let r = played_ready cs h t (fresh_ready l t e z) in run_halts (played t cs) r.reached r.opened arguments slots wide long
+    (arguments slots : List ℕ) → length arguments ≡ size.argument_cells → length slots ≡ size.bounds_cells → (w : Working) → Fitting w →
+    let u = played t cs in Ends (λ _ v. EndsWell v.header.phase) (λ _ _. ⊥) (run_call (given u) w (lent u arguments slots))
+played_halts l t e z cs h arguments slots wide long w fit =
+    let r = played_ready cs h t (fresh_ready l t e z) in run_halts (played t cs) r.reached r.opened arguments slots wide long w fit

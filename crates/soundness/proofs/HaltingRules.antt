@@ -464,6 +464,6 @@ rule_halts i rules id arguments =
     halts_then (halts_through _ _ _ (bindings_halt i arguments (slots_at rules id) (bindings_at rules id)))
     (halts_through _ _ _ (halts_look (λ s. halts_through _ _ _ (guards_halt i s.domains (slots_at rules id) (guards_at rules id)))))
 
-pub head_halts : (i : Input) (produced refinements : List ℕ) (n id : ℕ) → Frugal (head i produced refinements n id)
+pub head_halts : (i : Input) (produced : List ℕ) (known : List Refinement) (id : ℕ) → Frugal (head i produced known id)
 unfolding head
-head_halts i produced refinements n id = expression_halts i produced (refinements_of refinements n) id
+head_halts i produced known id = expression_halts i produced known id

@@ -22,10 +22,9 @@ use Rattle.keys.specs.Key.{Key}
 use Rattle.thresholds.specs.Thresholds.{entry}
 use Rattle.limits.specs.Context.{Context}
 use Rattle.store.specs.declared.Phase.TheVariants.{Completed, Stopped}
-use Rattle.slots.specs.Slots.{total}
+use Rattle.slots.specs.Slots.{blank, total}
 use Rattle.seeds.proofs.Seeded.{entries_in}
 use Rattle.seeds.proofs.Seeded as seeds
-use Rattle.rounds.specs.Round.{blank}
 use Rattle.slots.proofs.Moved.{moved_row, moved_total}
 use Rattle.slots.proofs.Copied.{Same}
 use Rattle.rounds.proofs.Live.{Room, blank_formed}
@@ -132,11 +131,11 @@ module _ {p : Accepted} {t : input.Tables} (g : Grounded p t) where
     unfolding ran_on
     ran_sound =
         go _
-        (begin_ends t.seeds n (seeds_good g some_opaque blank blank_room) e (beginning (entry t.header.budget t.header.counts.thresholds t.thresholds) blank (replicate size.growth_cells 0)) g.reached.rises numbers few
-        blank_room.0 (blank_formed size.argument_cells) refl)
+        (begin_ends t.seeds n (seeds_good g some_opaque (blank n) blank_room) e (beginning (entry t.header.budget t.header.counts.thresholds t.thresholds) (blank n) (replicate (size.growth_row * n) 0)) g.reached.rises numbers few
+        blank_room.0 blank_room.1 refl)
       where
-        blank_room : Room n blank
-        blank_room = (rw (length-replicate {A = ℕ} size.argument_cells 0) (omega (arith, g.reached.counted.positions)), blank_formed size.argument_cells)
+        blank_room : Room n (blank n)
+        blank_room = (rw (length-replicate {A = ℕ} (value_row * n) 0) (omega arith), blank_formed (value_row * n))
 
         go : (x : Run Stop Beginning (Unit {0})) →
             Ends (λ _ b. Sown t.seeds n e b.entry.budget.statistics.entries b.current × Ended (entry t.header.budget t.header.counts.thresholds t.thresholds) b.entry) (λ _ b. b.entry.budget.statistics.entries ≡ e) x →
@@ -144,7 +143,7 @@ module _ {p : Accepted} {t : input.Tables} (g : Grounded p t) where
         go x (completes {a = a} {s = b} h) =
             let th = take b.entry.count b.entry.table in
             let all = all_take Number b.entry.count b.entry.table h.1.marks.numbers in
-            let at = progress b.entry.budget t.header.context b.current b.growth (replicate size.bounds_cells 0) in
+            let at = progress b.entry.budget t.header.context b.current b.growth (replicate (size.bounds_row * t.header.counts.rules) 0) in
             conclude_sound th all b.entry.count b.entry.table _
             (ends_all (λ o _ u. Holds o u.current) (finish_sound th all e some_opaque at h.0) (λ o. ends_as (finish_sound th all e o at h.0) (λ _ u q. q.holds) (λ _ _ _. tt)))
         go x (stops h) = halted refl (h ∙ seeds_live) refl refl

@@ -26,6 +26,7 @@ use Rattle.rules.specs.Read.{slots_at, bindings_at, guards_at, heads_at}
 use Rattle.producers.specs.Producer.{Scope, scope}
 use Rattle.producers.proofs.Scoped.{HeadIn}
 use Rattle.slots.proofs.Live.{Formed, formed_put}
+use Rattle.refinements.specs.Refinement.{refinements_of}
 use Rattle.evaluation.specs.Evaluation.{Input, input}
 use Rattle.transfer.specs.Transfer.{Frame, frame, rule, head}
 use Rattle.transfer.proofs.Live.{head_good}
@@ -40,8 +41,9 @@ use Rattle.soundness.specs.Plain.{Tree, Opaque, Choice, into, ProperKey, Fires, 
 use Rattle.soundness.specs.Tied.{plain_binding, plain_guard, plain_head}
 use Rattle.soundness.proofs.Lies.{Lies, join_lies}
 use Rattle.soundness.proofs.Worth.{ProperChoice, proper_into}
-use Rattle.soundness.proofs.Evaluating.{Sound}
-use Rattle.soundness.proofs.Binding.{Among}
+use Rattle.soundness.proofs.Evaluating.{Sound, Holds}
+use Rattle.soundness.proofs.Binding.{Held, Among}
+use Rattle.soundness.proofs.Guarding.{known_all}
 use Rattle.soundness.proofs.Firing.{Fired}
 use Rattle.soundness.proofs.Stored.{bindings_inside, guards_inside, heads_inside, Stage, scene_of, Valued, stored_rule, stored_heads}
 use Rattle.soundness.proofs.StoredLive.{guard_inside, binding_inside}
@@ -86,16 +88,16 @@ module _ (t : Tables) (small : All (λ c. c < 2 ^ 32) t.constants) (key : ℕ �
   }
 
   -- a head keeps it
-  head_has : (l : Locals) → Legible l → (h : Head) → h.argument < n → Brings (rows_of n) Has' Has' (join_head (over t) l.produced l.refinements l.recorded h)
+  head_has : (l : Locals) → Legible l → (h : Head) → h.argument < n → Brings (rows_of n) Has' Has' (join_head (over t) l.produced l.known h)
   head_has l q h below =
-      brings_head n Has' Has' Good (λ rows p. p.room.0) (over t) l.produced l.refinements l.recorded h below
-      (head_good (over t) small l.produced l.refinements q.produced q.refinements l.recorded h.value)
+      brings_head n Has' Has' Good (λ rows p. p.room.0) (over t) l.produced l.known h below
+      (head_good (over t) small l.produced q.produced l.known q.known h.value)
       (λ v w rows p.
       weaken (λ x f. (f.0.formed, put_has rows h.argument below x p.room f.0 f.1 (λ _. p.lies)))
       (both (join_good (over t).width (value_at rows h.argument) v (p.room.1 h.argument) w)
       (for_all (λ e. join_lies key t.constants (over t).width (value_at rows h.argument) v k proper (inl (subst (λ (i : ℕ). Lies key t.constants (value_at rows i) k) e p.lies))))))
 
-  heads_have : (l : Locals) → Legible l → (hs : List Head) → All (λ h. h.argument < n) hs → All (λ h. Brings (rows_of n) Has' Has' (join_head (over t) l.produced l.refinements l.recorded h)) hs
+  heads_have : (l : Locals) → Legible l → (hs : List Head) → All (λ h. h.argument < n) hs → All (λ h. Brings (rows_of n) Has' Has' (join_head (over t) l.produced l.known h)) hs
   heads_have l q [] b = tt
   heads_have l q (h ∷ hs) b = (head_has l q h b.0, heads_have l q hs b.1)
 
@@ -104,14 +106,14 @@ module _ (t : Tables) (small : All (λ c. c < 2 ^ 32) t.constants) (key : ℕ �
   unfolding apply
   apply_has previous formed id fit =
       brings_locals (over t) t.rules id previous Legible (local_live (over t) small fit previous formed)
-      (λ l q. brings_each (join_head (over t) l.produced l.refinements l.recorded) Has' (heads_at t.rules id) (heads_have l q (heads_at t.rules id) fit.heads))
+      (λ l q. brings_each (join_head (over t) l.produced l.known) Has' (heads_at t.rules id) (heads_have l q (heads_at t.rules id) fit.heads))
 
   -- a head whose value has it brings it about
-  head_gives : (l : Locals) → (h : Head) → h.argument ≡ a → Ensures (λ v. Good v × Lies key t.constants v k) (head (over t) l.produced l.refinements l.recorded h.value) →
-      Brings (rows_of n) (Room n) Has' (join_head (over t) l.produced l.refinements l.recorded h)
+  head_gives : (l : Locals) → (h : Head) → h.argument ≡ a → Ensures (λ v. Good v × Lies key t.constants v k) (head (over t) l.produced l.known h.value) →
+      Brings (rows_of n) (Room n) Has' (join_head (over t) l.produced l.known h)
   head_gives l h e gives =
       let below : h.argument < n = omega arith in
-      brings_head n (Room n) Has' (λ v. Good v × Lies key t.constants v k) (λ rows p. p.0) (over t) l.produced l.refinements l.recorded h below gives
+      brings_head n (Room n) Has' (λ v. Good v × Lies key t.constants v k) (λ rows p. p.0) (over t) l.produced l.known h below gives
       (λ v w rows p.
       weaken (λ x f. (f.0.formed, put_has rows h.argument below x p f.0 (λ _. f.1) (λ d. absurd (d (sym e)))))
       (both (join_good (over t).width (value_at rows h.argument) v (p.1 h.argument) w.0) (join_lies key t.constants (over t).width (value_at rows h.argument) v k proper (inr w.1))))
@@ -137,22 +139,27 @@ hit o x tree ch p (h ∷ hs) a k (inr g) =
 
 module _ {t : Tables} (g : Stage t) (previous : List ℕ) (valued : Valued t previous) (formed : Formed previous) (id : ℕ) (l : id < t.header.counts.rules)
     (fires : Fires g.opaque (Among (scene_of g) previous) g.choices (map (plain_binding g.tree) (bindings_at t.rules id)) (map (plain_guard g.tree) (guards_at t.rules id))) where
-  abbrev Kept : Locals → Type 0
-  Kept s = Fired (scene_of g) (slots_at t.rules id) s.recorded (frame (record { work = 0; max_work = 0; entries = 0; max_entries = 0 }) s.domains s.produced s.refinements)
+  -- the values after guards hold those of the firing, and what guards have recorded holds in it
+  record Kept (s : Locals) : Type 0 where
+    held : Held (scene_of g) (slots_at t.rules id) s.produced
+    known : All (Holds (scene_of g)) s.known
 
   local_fired : (m : Meter) → Ends (λ s _. Kept s) (λ _ _. Unit {0}) (own_locals (over t) t.rules id previous m)
   unfolding own_locals fill
   local_fired m =
       go
       (on_then (λ u. u.meter) (λ u n. frame n u.domains u.produced u.refinements) (λ u n. frame n u.domains u.produced u.refinements) (λ x. x) {P = λ _ _. Unit {0}} {Q = λ _ _. Unit {0}} (work 1)
-      (rule (over t) t.rules id previous) (blank_frame m) (in_some_way (work 1 m))
+      (rule (over t) t.rules id previous) (blank_frame slots m) (in_some_way (work 1 m))
       (λ _ n _.
-      stored_rule g previous valued id l fires t.header.budget.limits.width (frame n (blank_frame m).domains (blank_frame m).produced (blank_frame m).refinements)
-      (rw (length-replicate {A = ℕ} (value_row * 16) 0) (omega arith)) (rw (length-replicate {A = ℕ} (value_row * 16) 0) (omega arith)))
+      stored_rule g previous valued id l fires t.header.budget.limits.width (frame n (blank_frame slots m).domains (blank_frame slots m).produced (blank_frame slots m).refinements)
+      (rw (length-replicate {A = ℕ} (value_row * slots) 0) (omega arith)) (rw (length-replicate {A = ℕ} (value_row * slots) 0) (omega arith)))
       (λ _ _ _. tt))
     where
+      slots : ℕ
+      slots = slots_at t.rules id
+
       go : {x : Run Stop Frame ℕ} → Ends (λ k u. Fired (scene_of g) (slots_at t.rules id) k u) (λ _ _. Unit {0}) x → Ends (λ s _. Kept s) (λ _ _. Unit {0}) (locals_of x)
-      go (completes {a = k} {s = u} h) = completes {a = locals u.domains u.produced u.refinements k} record { domains = h.domains; produced = h.produced; known = h.known }
+      go (completes {a = k} {s = u} h) = completes {a = locals u.domains u.produced (refinements_of u.refinements k)} record { held = h.produced; known = known_all h.known }
       go (stops h) = stops tt
 
   abbrev count : ℕ
@@ -169,19 +176,19 @@ module _ {t : Tables} (g : Stage t) (previous : List ℕ) (valued : Valued t pre
       brings_locals (over t) t.rules id previous (λ s. Legible s × Kept s)
       (λ m. ends_as (ends_both (local_live (over t) g.cells fit previous formed m) (local_fired m)) (λ s n z. (z.0.0, (z.0.1, z.1))) (λ _ n z. z.0))
       (λ s q.
-      brings_hit (join_head (over t) s.produced s.refinements s.recorded) (Room count) (Has g.key t.constants count a k) h.head (heads_at t.rules id) h.among
+      brings_hit (join_head (over t) s.produced s.known) (Room count) (Has g.key t.constants count a k) h.head (heads_at t.rules id) h.among
       (keep_room s q.0 (heads_at t.rules id) fit.heads) (keep_key s q.0 (heads_at t.rules id) fit.heads)
       (head_gives t g.cells g.key count a inside k proper s h.head h.argument
       (weaken (λ v z. (record { formed = z.formed; tidy = z.tidy }, z.covers.at h.choice h.proper k h.value))
-      (pick (λ y. Ensures (Sound (scene_of g) y.value) (head (over t) s.produced s.refinements s.recorded y.value)) h.head (heads_at t.rules id) h.among
-      (stored_heads g previous valued id l t.header.budget.limits.width s.recorded (frame (record { work = 0; max_work = 0; entries = 0; max_entries = 0 }) s.domains s.produced s.refinements) q.1)))))
+      (pick (λ y. Ensures (Sound (scene_of g) y.value) (head (over t) s.produced s.known y.value)) h.head (heads_at t.rules id) h.among
+      (stored_heads g previous valued id l t.header.budget.limits.width s.produced q.1.held s.known q.1.known)))))
     where
-      keep_room : (s : Locals) → Legible s → (hs : List Head) → All (λ h. h.argument < count) hs → All (λ h. Brings (rows_of count) (Room count) (Room count) (join_head (over t) s.produced s.refinements s.recorded h)) hs
+      keep_room : (s : Locals) → Legible s → (hs : List Head) → All (λ h. h.argument < count) hs → All (λ h. Brings (rows_of count) (Room count) (Room count) (join_head (over t) s.produced s.known h)) hs
       keep_room s q [] b = tt
       keep_room s q (x ∷ hs) b = (head_keeps (over t) g.cells count s q x b.0, keep_room s q hs b.1)
 
       keep_key : (s : Locals) → Legible s → (hs : List Head) → All (λ h. h.argument < count) hs →
-          All (λ h. Brings (rows_of count) (Has g.key t.constants count a k) (Has g.key t.constants count a k) (join_head (over t) s.produced s.refinements s.recorded h)) hs
+          All (λ h. Brings (rows_of count) (Has g.key t.constants count a k) (Has g.key t.constants count a k) (join_head (over t) s.produced s.known h)) hs
       keep_key s q [] b = tt
       keep_key s q (x ∷ hs) b = (head_has t g.cells g.key count a inside k proper s q x b.0, keep_key s q hs b.1)
 

@@ -65,7 +65,7 @@ module _ {p : Accepted} {t : Tables} (g : Grounded p t) (o : Opaque) (thresholds
   pub round_ends : (values : List ℕ) → Room n values → (base : ℕ) (c : Course) → c.budget.statistics.entries ≡ base →
       Ends (λ rows d. (d.budget.statistics.entries ≡ base + total rows n) × Round values rows) (λ _ d. d.budget.statistics.entries ≡ base) (candidates run values c)
   round_ends values room base c q =
-      candidates_ends run values (Round values) base g.reached.counted.positions
+      candidates_ends run values (Round values) base
       (λ s r f z. ends_as (image_sound g o values room base s r f z) (λ _ u y. (y.0, record { room = y.1.0; steps = y.1.1 })) (λ _ u y. y)) c q
 
   -- a new value of the argument j has what a step gives and what the old one had; where it has not changed, no more than the old one
@@ -97,7 +97,7 @@ module _ {p : Accepted} {t : Tables} (g : Grounded p t) (o : Opaque) (thresholds
       (pass run thresholds s)
   pass_sound s room live =
       ends_as
-      (pass_ends run thresholds g.reached.counted.positions s room e live (Round s.current) (New s.current) (λ c q. round_ends s.current room (e + total s.current n) c q) (λ rows r. advances s.current room rows r))
+      (pass_ends run thresholds s room e live (Round s.current) (New s.current) (λ c q. round_ends s.current room (e + total s.current n) c q) (λ rows r. advances s.current room rows r))
       (λ changed u h. ((h.room, h.live), λ z. closed s u room (subst (λ (b : Bool). Passed (New s.current) e n b u) z h)))
       (λ _ u h. rw h.1 h.0)
 

@@ -20,13 +20,14 @@ use Rattle.producers.specs.Producer.{Scope, scope}
 use Rattle.producers.proofs.Scoped.{BindingIn, GuardIn, HeadIn, RuleIn}
 use Rattle.input.specs.Input.{Tables}
 use Rattle.input.proofs.Reached.{Ruled, Reached}
+use Rattle.refinements.specs.Refinement.{Refinement}
 use Rattle.evaluation.specs.Evaluation.{input}
 use Rattle.transfer.specs.Transfer.{Frame, rule, head}
 use Rattle.soundness.specs.Plain.{Tree, Opaque, Choices, Fires}
 use Rattle.soundness.specs.Tied.{plain_binding, plain_guard, Constants, Trees}
 use Rattle.soundness.proofs.Worth.{Scene}
-use Rattle.soundness.proofs.Evaluating.{Sound}
-use Rattle.soundness.proofs.Binding.{Among}
+use Rattle.soundness.proofs.Evaluating.{Sound, Holds}
+use Rattle.soundness.proofs.Binding.{Held, Among}
 use Rattle.soundness.proofs.Firing.{Setting, Fired, rule_sound, head_sound}
 
 all_map : {A B : Type 0} (P : B → Type 0) (f : A → B) (l : List A) → All (λ a. P (f a)) l → All P (map f l)
@@ -55,9 +56,6 @@ module _ {arguments expressions : ℕ} {nodes cells : List ℕ} {id : ℕ} (q : 
 
   pub heads_inside : All (HeadIn arguments own) (heads_at cells id)
   heads_inside = subst (All (HeadIn arguments own)) (sym (q.back.all_heads (omega (arith, q.whole.1.1, q.inside.short.heads)))) inside.heads
-
-  pub few_slots : slots_at cells id ≤ 16
-  few_slots = omega (arith, q.back.slots, q.inside.slots)
 
 -- ---- a firing of it
 
@@ -100,19 +98,19 @@ module _ {t : Tables} (g : Stage t) (arguments : List ℕ) (v : Valued t argumen
 
     -- where all bindings and guards hold for values in the arguments, the slots' values lie in what `rule` gives
     pub stored_rule : Fires g.opaque (Among (scene_of g) arguments) g.choices (map (plain_binding g.tree) (bindings_at t.rules id)) (map (plain_guard g.tree) (guards_at t.rules id)) →
-        (width : ℕ) (s : Frame) → value_row * 16 ≤ length s.domains → value_row * 16 ≤ length s.produced →
+        (width : ℕ) (s : Frame) → value_row * slots_at t.rules id ≤ length s.domains → value_row * slots_at t.rules id ≤ length s.produced →
         Ends (λ k u. Fired (scene_of g) (slots_at t.rules id) k u) (λ _ _. Unit {0}) (rule (input t.nodes t.constants width) t.rules id arguments s)
     stored_rule fires width s d p =
         rule_sound (scene_of g) t.header.counts.expressions t.header.counts.positions width arguments setting t.rules id g.choices.choice record { at = g.choices.proper_choice }
-        (bindings_inside row_of) (guards_inside row_of) fires.bindings fires.guards s (omega (arith, few_slots row_of)) (omega (arith, few_slots row_of))
+        (bindings_inside row_of) (guards_inside row_of) fires.bindings fires.guards s d p
 
     -- and what each of its heads is worth lies in what `head` gives; a head that is worth nothing asks for nothing, and the others are as they are
-    pub stored_heads : (width k : ℕ) (s : Frame) → Fired (scene_of g) (slots_at t.rules id) k s →
-        All (λ h. Ensures (Sound (scene_of g) h.value) (head (input t.nodes t.constants width) s.produced s.refinements k h.value)) (heads_at t.rules id)
-    stored_heads width k s f = each (heads_at t.rules id) (heads_inside row_of)
+    pub stored_heads : (width : ℕ) (produced : List ℕ) → Held (scene_of g) (slots_at t.rules id) produced → (known : List Refinement) → All (Holds (scene_of g)) known →
+        All (λ h. Ensures (Sound (scene_of g) h.value) (head (input t.nodes t.constants width) produced known h.value)) (heads_at t.rules id)
+    stored_heads width produced held known holds = each (heads_at t.rules id) (heads_inside row_of)
       where
         each : (hs : List Head) → All (HeadIn t.header.counts.positions (scope t.nodes t.header.counts.expressions (slots_at t.rules id))) hs →
-            All (λ h. Ensures (Sound (scene_of g) h.value) (head (input t.nodes t.constants width) s.produced s.refinements k h.value)) hs
+            All (λ h. Ensures (Sound (scene_of g) h.value) (head (input t.nodes t.constants width) produced known h.value)) hs
         each [] i = tt
         each (h ∷ hs) i =
-            (head_sound (scene_of g) t.header.counts.expressions t.header.counts.positions width arguments setting (slots_at t.rules id) k s.produced s.refinements f.produced f.known h.value i.0.1, each hs i.1)
+            (head_sound (scene_of g) t.header.counts.expressions t.header.counts.positions width arguments setting (slots_at t.rules id) produced held known holds h.value i.0.1, each hs i.1)

@@ -27,7 +27,7 @@ use Rattle.store.specs.declared.Phase.TheVariants.{Absent, Open, Completed, Stop
 use Rattle.store.specs.declared.Store.{Store}
 use Rattle.store.specs.Store.{admits, empty, fresh_of}
 use Rattle.store.specs.Calls.{open?}
-use Rattle.engine.specs.Call.{read, sized, results_sized, spacious, given_of, ran_on, run_call}
+use Rattle.engine.specs.Call.{Working, read, sized, results_sized, working_sized, spacious, given_of, ran_on, run_call}
 use Rattle.engine.specs.Call as engine
 use Rattle.input.specs.Input as input
 use Rattle.input.proofs.Played.{call_keeps}
@@ -92,6 +92,12 @@ reading_after : {A : Type 0} (f : A → Answer) (s : State) (r : Reading A) → 
 reading_after f s (given a) = refl
 reading_after f s (reading.refused e) = refl
 
+-- whether all tables that a run is lent have 01's sizes
+abbrev run_sized : State → Working → Bool
+run_sized s w =
+    sized (length s.tables.nodes) (length s.tables.constants) (length s.tables.rules) (length s.tables.seeds) (length s.tables.thresholds)
+    && (results_sized (length s.arguments) (length s.slots) && working_sized (length w.current) (length w.growth) (length w.scratch))
+
 -- what a step leaves of a store, of which p has been said
 pub record Idle (p : Accepted) (c : Call) (s : State) : Type 0 where
   pub after : (step c s).after ≡ s
@@ -109,21 +115,21 @@ module _ (p : Accepted) (s : State) (shut : admits s.tables.header.phase ≡ fal
       go x (completes h) e = absurd h
       go x (stops h) e = record { after = rw (e, h) refl; said = rw e refl }
 
-  run_idle : Idle p run s
+  run_idle : (w : Working) → Idle p (run w) s
   unfolding step run_call
-  run_idle =
-      go (run_call (read s.tables.nodes s.tables.constants s.tables.rules s.tables.seeds) (for_run s))
-      (ends_test (sized (length s.tables.nodes) (length s.tables.constants) (length s.tables.rules) (length s.tables.seeds) (length s.tables.thresholds) && results_sized (length s.arguments) (length s.slots))
+  run_idle w =
+      go (run_call (read s.tables.nodes s.tables.constants s.tables.rules s.tables.seeds) w (for_run s))
+      (ends_test (run_sized s w)
       (λ _. ends_test (open? s.tables.header) (λ h. absurd (never h)) (λ _. stops refl)) (λ _. stops refl)) refl
     where
-      go : (x : Run Told engine.Tables (Unit {0})) → Ends (λ _ _. ⊥) (λ _ u. u ≡ for_run s) x → run_call (read s.tables.nodes s.tables.constants s.tables.rules s.tables.seeds) (for_run s) ≡ x → Idle p run s
+      go : (x : Run Told engine.Tables (Unit {0})) → Ends (λ _ _. ⊥) (λ _ u. u ≡ for_run s) x → run_call (read s.tables.nodes s.tables.constants s.tables.rules s.tables.seeds) w (for_run s) ≡ x → Idle p (run w) s
       go x (completes h) e = absurd h
       go x (stops h) e = record { after = rw (e, h) refl; said = refl }
 
   pub closed_step : (c : Call) → Idle p c s
   unfolding step
   closed_step (store c) = store_idle c
-  closed_step run = run_idle
+  closed_step (run w) = run_idle w
   closed_step (argument a) = record { after = reading_after value s (argument_reading s.tables.header s.arguments a); said = refl }
   closed_step (context_count a) = record { after = reading_after calls.number s (context_count_reading s.tables.header s.tables.records a); said = refl }
   closed_step (context a k) = record { after = reading_after calls.number s (context_reading s.tables.header s.tables.records a k); said = refl }
@@ -159,21 +165,21 @@ module _ (ties : (c : input.Call) → input.Typed c → (p : Accepted) (t : inpu
         go x (stops q) = building q.1 q.0
 
     -- the run is taken, and completes or is stopped; or it is refused, and nothing has changed
-    run_stands : Stands (learned p run (step run s).answer) (step run s).after
+    run_stands : (w : Working) → Stands (learned p (run w) (step (run w) s).answer) (step (run w) s).after
     unfolding step run_call
-    run_stands =
-        go (run_call tables (for_run s))
-        (ends_test (sized (length s.tables.nodes) (length s.tables.constants) (length s.tables.rules) (length s.tables.seeds) (length s.tables.thresholds) && results_sized (length s.arguments) (length s.slots))
+    run_stands w =
+        go (run_call tables w (for_run s))
+        (ends_test (run_sized s w)
         (λ z.
         ends_test (open? s.tables.header) (λ _. ends_test (spacious s.tables.header.counts) (λ q. completes (ran z q)) (λ _. stops refl)) (λ _. stops refl)) (λ _. stops refl))
       where
         tables : engine.Read
         tables = read s.tables.nodes s.tables.constants s.tables.rules s.tables.seeds
 
-        ran : sized (length s.tables.nodes) (length s.tables.constants) (length s.tables.rules) (length s.tables.seeds) (length s.tables.thresholds) && results_sized (length s.arguments) (length s.slots) ≡ true →
+        ran : run_sized s w ≡ true →
             spacious s.tables.header.counts ≡ true → Ran (ground p s.tables tied) (for_run s) (ran_on (given_of tables s.tables.header) (for_run s))
         ran z q =
-            let wide : length s.arguments ≡ size.argument_cells = eqb-true (length s.arguments) size.argument_cells (and_left _ (eqb (length s.slots) size.bounds_cells) (and_right (sized (length s.tables.nodes) (length s.tables.constants) (length s.tables.rules) (length s.tables.seeds) (length s.tables.thresholds)) _ z)) in
+            let wide : length s.arguments ≡ size.argument_cells = eqb-true (length s.arguments) size.argument_cells (and_left _ (eqb (length s.slots) size.bounds_cells) (and_left (results_sized (length s.arguments) (length s.slots)) _ (and_right (sized (length s.tables.nodes) (length s.tables.constants) (length s.tables.rules) (length s.tables.seeds) (length s.tables.thresholds)) _ z))) in
             let few : s.tables.header.counts.thresholds ≤ size.thresholds_before_run =
             leb-true s.tables.header.counts.thresholds size.thresholds_before_run (and_right (leb s.tables.header.counts.rules 256) _ (and_right (leb s.tables.header.counts.positions 256) _ q)) in
             ran_sound (ground p s.tables tied) tied.numbers (omega (arith, tied.reached.sized.thresholds)) s.arguments s.slots (omega (arith, tied.reached.counted.positions))
@@ -194,7 +200,7 @@ module _ (ties : (c : input.Call) → input.Typed c → (p : Accepted) (t : inpu
     where
       go : (c : Call) → Typed c → Stands (learned p c (step c s).answer) (step c s).after
       go (store c) h = store_stands p s o t c h
-      go run h = run_stands p s o t
+      go (run w) h = run_stands p s o t w
       go (argument a) h = subst (Stands p) (sym (reading_after value s (argument_reading s.tables.header s.arguments a))) (building o t)
       go (context_count a) h = subst (Stands p) (sym (reading_after calls.number s (context_count_reading s.tables.header s.tables.records a))) (building o t)
       go (context a k) h = subst (Stands p) (sym (reading_after calls.number s (context_reading s.tables.header s.tables.records a k))) (building o t)

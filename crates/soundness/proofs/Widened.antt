@@ -1,7 +1,8 @@
 -- Widening in a run of a store whose tables hold what the accepted calls have said. Its thresholds are in order and hold both ends of 32 bits, so that
 -- each widening is by 01's rule, and a side that has grown twice moves to the nearest threshold at or beyond it: there is always one.
 use Rattle.sizes.specs.Sizes as size
-use Prim.Native.Nat.{ℕ, zero, suc, ◌+◌, ◌≤◌, ◌<◌}
+use Rattle.sizes.specs.Sizes.{value_row}
+use Prim.Native.Nat.{ℕ, zero, suc, ◌+◌, ◌*◌, ◌≤◌, ◌<◌}
 use native.Mathlib.Omega.{arith}
 use mathlib.Core.Path.{refl, subst, ◌∙◌}
 use mathlib.Core.List.{List, [], ◌∷◌, Memᴰ}
@@ -20,7 +21,7 @@ use Rattle.widening.specs.declared.Growth.{Growth}
 use Rattle.widening.specs.Widening.{widen}
 use Rattle.widening.specs.Rule.{Rising, Which, Grows, Nearest, Placed, ByRule}
 use Rattle.widening.proofs.Rule.{rising_first, widen_by_rule, moves_nearest}
-use Rattle.rounds.specs.Round.{blank}
+use Rattle.slots.specs.Slots.{blank}
 use Rattle.rounds.proofs.Live.{Room, blank_formed}
 use Rattle.engine.specs.Run.{beginning, begin}
 use Rattle.engine.proofs.Begun.{Ended, begin_ends}
@@ -59,15 +60,15 @@ ended_marked s t room h = record {
 module _ {p : Accepted} {t : input.Tables} (g : Grounded p t) (numbers : All Number t.thresholds) (few : t.header.counts.thresholds + 2 ≤ length t.thresholds) where
   -- where the beginning of its run completes, these are the thresholds that the passes are given
   pub begin_marked : Ends (λ _ b. Marked (take b.entry.count b.entry.table)) (λ _ _. Unit {0})
-      (begin t.seeds t.header.counts.positions (beginning (entry t.header.budget t.header.counts.thresholds t.thresholds) blank (replicate size.growth_cells 0)))
+      (begin t.seeds t.header.counts.positions (beginning (entry t.header.budget t.header.counts.thresholds t.thresholds) (blank t.header.counts.positions) (replicate (size.growth_row * t.header.counts.positions) 0)))
   begin_marked =
       ends_as
-      (begin_ends t.seeds t.header.counts.positions (seeds_good g record { one = λ _ _. none; two = λ _ _ _. none } blank room) t.header.budget.statistics.entries
-      (beginning (entry t.header.budget t.header.counts.thresholds t.thresholds) blank (replicate size.growth_cells 0)) g.reached.rises numbers few room.0 (blank_formed size.argument_cells) refl)
+      (begin_ends t.seeds t.header.counts.positions (seeds_good g record { one = λ _ _. none; two = λ _ _ _. none } (blank t.header.counts.positions) room) t.header.budget.statistics.entries
+      (beginning (entry t.header.budget t.header.counts.thresholds t.thresholds) (blank t.header.counts.positions) (replicate (size.growth_row * t.header.counts.positions) 0)) g.reached.rises numbers few room.0 room.1 refl)
       (λ _ b h. ended_marked (entry t.header.budget t.header.counts.thresholds t.thresholds) b.entry few h.1) (λ _ _ _. tt)
     where
-      room : Room t.header.counts.positions blank
-      room = (rw (length-replicate {A = ℕ} size.argument_cells 0) (omega (arith, g.reached.counted.positions)), blank_formed size.argument_cells)
+      room : Room t.header.counts.positions (blank t.header.counts.positions)
+      room = (rw (length-replicate {A = ℕ} (value_row * t.header.counts.positions) 0) (omega arith), blank_formed (value_row * t.header.counts.positions))
 
 -- ---- and what widening then does
 

@@ -37,7 +37,7 @@ pub record LiesIn (p : Accepted) (k : Key) (v : Value) : Type 0 where
 
 abbrev pub Typed : Call → Type 0
 Typed (store c) = input.Typed c
-Typed run = Unit {0}
+Typed (run w) = Unit {0}
 Typed (calls.argument a) = Unit {0}
 Typed (context_count a) = Unit {0}
 Typed (calls.context a k) = Unit {0}

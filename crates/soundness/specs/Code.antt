@@ -28,7 +28,7 @@ use Rattle.seeds.specs.Seed.{seed_value_call, seed_interval_call}
 use Rattle.seeds.specs.Seed as seeds
 use Rattle.producers.specs.Producer.{rule_call}
 use Rattle.producers.specs.Producer as producers
-use Rattle.engine.specs.Call.{read, run_call}
+use Rattle.engine.specs.Call.{Working, read, run_call, run_leaves}
 use Rattle.engine.specs.Call as engine
 use Rattle.input.specs.Input.{Tables, with_header, from_predicate, from_constant, from_expression, from_value, from_interval, from_rule}
 use Rattle.input.specs.Input as input
@@ -83,10 +83,11 @@ pub data Exchange (s : State) : Call → calls.Answer → State → Type 0 where
   rule : (q : Rule) (r : Result ℕ Refusal) (header' : Store) (rules' records' : List ℕ) →
       replied r (producers.tables header' rules' records') ≡ rule_call s.tables.nodes q (producers.tables s.tables.header s.tables.rules s.tables.records) →
       Exchange s (calls.store (input.rule q)) (id_tells r) (leaves s (from_rule (producers.tables header' rules' records') s.tables))
-  run : (r : Result (Unit {0}) Refusal) (header' : Store) (thresholds' : List ℤ) (arguments' slots' : List ℕ) →
+  run : (w : Working) (r : Result (Unit {0}) Refusal) (header' : Store) (thresholds' : List ℤ) (arguments' slots' current' growth' : List ℕ) →
       replied r (engine.tables header' thresholds' arguments' slots')
-      ≡ run_call (read s.tables.nodes s.tables.constants s.tables.rules s.tables.seeds) (engine.tables s.tables.header s.tables.thresholds s.arguments s.slots) →
-      Exchange s calls.run (tells (λ _. calls.ran) r) (from_run (engine.tables header' thresholds' arguments' slots') s)
+      ≡ run_call (read s.tables.nodes s.tables.constants s.tables.rules s.tables.seeds) w (engine.tables s.tables.header s.tables.thresholds s.arguments s.slots) →
+      (current', growth') ≡ run_leaves (read s.tables.nodes s.tables.constants s.tables.rules s.tables.seeds) w (engine.tables s.tables.header s.tables.thresholds s.arguments s.slots) →
+      Exchange s (calls.run w) (tells (λ _. calls.ran) r) (from_run (engine.tables header' thresholds' arguments' slots') s)
   argument_read : (a : ℕ) (r : Result Abstract Refusal) → reads value_of r ≡ argument_reading s.tables.header s.arguments a →
       Exchange s (calls.argument a) (tells (λ v. calls.value (value_of v)) r) s
   context_count_read : (a : ℕ) (r : Result ℕ Refusal) → reads (λ n. n) r ≡ context_count_reading s.tables.header s.tables.records a → Exchange s (calls.context_count a) (tells calls.number r) s

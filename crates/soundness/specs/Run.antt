@@ -106,7 +106,7 @@ learned_reply p c (ended s) = p
 -- the run and readings say nothing
 abbrev pub learned : Accepted → calls.Call → calls.Answer → Accepted
 learned p (store c) a = learned_reply p c a
-learned p run a = p
+learned p (run w) a = p
 learned p (calls.argument b) a = p
 learned p (context_count b) a = p
 learned p (calls.context b k) a = p

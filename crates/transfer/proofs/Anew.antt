@@ -1,5 +1,5 @@
 -- What the tables of a rule held before does not matter: from any tables of slots of exactly as many rows as the rule has slots, and any two
--- tables of refinements of one length, `rule` ends alike. What a head gives then is the same.
+-- tables of refinements of one length, `rule` ends alike.
 use Prim.Native.Nat.{ℕ, ◌*◌}
 use mathlib.Core.Path.{◌≡◌, subst}
 use mathlib.Core.List.{List}
@@ -13,13 +13,12 @@ use Rattle.rules.specs.Read.{slots_at, bindings_at, guards_at}
 use Rattle.slots.specs.Slots.{total}
 use Rattle.slots.proofs.Likewise.{Likewise, like_then, like_through}
 use Rattle.slots.proofs.Shared.{Shared}
-use Rattle.evaluation.specs.Evaluation.{Input, expression}
+use Rattle.evaluation.specs.Evaluation.{Input}
 use Rattle.bindings.specs.Bindings.{bind}
 use Rattle.bindings.proofs.Anew.{bind_anew}
 use Rattle.guards.specs.Guards.{Local, local, guard}
-use Rattle.guards.proofs.Recorded.{refinements_same}
 use Rattle.guards.proofs.Anew.{Beside, Spent, guard_anew}
-use Rattle.transfer.specs.Transfer.{Frame, frame, in_domains, in_local, holding_domains, guarding, rule, head}
+use Rattle.transfer.specs.Transfer.{Frame, frame, in_domains, in_local, holding_domains, guarding, rule}
 
 -- of the same counts and values before and after guards, with the first k refinements the same
 pub record Framed (k : ℕ) (s s' : Frame) : Type 0 where
@@ -31,11 +30,6 @@ pub record Framed (k : ℕ) (s s' : Frame) : Type 0 where
 -- what a stop leaves of them: the counts
 abbrev pub Charged : Frame → Frame → Type 0
 Charged s s' = s.meter ≡ s'.meter
-
--- what a head gives under as many refinements as are recorded
-pub head_anew : (i : Input) (k id : ℕ) (s s' : Frame) → Framed k s s' → head i s.produced s.refinements k id ≡ head i s'.produced s'.refinements k id
-unfolding head
-head_anew i k id s s' h = λ d. expression i (h.produced d) (refinements_same k h.shared d) id
 
 -- ---- after the bindings: the same counts and values before guards, and tables for the values after them
 

@@ -6,6 +6,7 @@ use mathlib.Core.Path.{◌≡◌}
 use mathlib.Core.List.{List}
 use lib.ListN.{length}
 use Rattle.integers.specs.Lists.{All}
+use Rattle.rows.specs.WellFormed.{Proper}
 use Rattle.limits.specs.Meter.{released}
 use Rattle.limits.proofs.Monad.{Ensures}
 use Rattle.limits.proofs.Ends.{Ends, ends_through, on_then}
@@ -16,8 +17,7 @@ use Rattle.rows.proofs.Good.{Good}
 use Rattle.rules.specs.Read.{slots_at, bindings_at, guards_at}
 use Rattle.slots.specs.Slots.{slots, total}
 use Rattle.slots.proofs.Live.{Formed, Held, SlotIn}
-use Rattle.refinements.specs.Refinement.{refinements_of}
-use Rattle.refinements.proofs.Theorems.{refinements_proper}
+use Rattle.refinements.specs.Refinement.{Refinement}
 use Rattle.evaluation.specs.Evaluation.{Input}
 use Rattle.evaluation.proofs.Live.{expression_lives}
 use Rattle.evaluation.proofs.Formed.{expression_good}
@@ -68,12 +68,12 @@ module _ (i : Input) (small : All (λ c. c < 2 ^ 32) i.constants) (rules : List 
       (λ _ t k. omega arith))
       (λ _ u p. p)
 
-pub head_lives : (i : Input) (produced refinements : List ℕ) (n id : ℕ) → Lives 0 entries_of (head i produced refinements n id)
+pub head_lives : (i : Input) (produced : List ℕ) (known : List Refinement) (id : ℕ) → Lives 0 entries_of (head i produced known id)
 unfolding head
-head_lives i produced refinements n id = expression_lives i produced (refinements_of refinements n) id
+head_lives i produced known id = expression_lives i produced known id
 
 -- and a row holds what a head gives exactly
-pub head_good : (i : Input) → All (λ c. c < 2 ^ 32) i.constants → (produced refinements : List ℕ) → Formed produced → All (λ c. c < 2 ^ 32) refinements → (n id : ℕ) →
-    Ensures Good (head i produced refinements n id)
+pub head_good : (i : Input) → All (λ c. c < 2 ^ 32) i.constants → (produced : List ℕ) → Formed produced → (known : List Refinement) → All (λ r. Proper r.restriction) known → (id : ℕ) →
+    Ensures Good (head i produced known id)
 unfolding head
-head_good i small produced refinements f cells n id = expression_good i small produced f (refinements_of refinements n) (refinements_proper refinements 0 n cells) id
+head_good i small produced f known proper id = expression_good i small produced f known proper id

@@ -5,7 +5,7 @@ use mathlib.Core.List.{List}
 use Rattle.limits.proofs.Monad.{Steady}
 use Rattle.limits.proofs.Alike.{SteadyOn, on_look, on_then, on_through}
 use Rattle.rules.specs.Read.{slots_at, bindings_at, guards_at}
-use Rattle.refinements.specs.Refinement.{refinements_of}
+use Rattle.refinements.specs.Refinement.{Refinement}
 use Rattle.evaluation.specs.Evaluation.{Input}
 use Rattle.evaluation.proofs.Steady.{expression_steady}
 use Rattle.bindings.proofs.Steady.{on_bindings}
@@ -29,6 +29,6 @@ module _ (i : Input) (rules : List ℕ) (id : ℕ) where
       on_then (on_through _ _ _ _ (λ s t e. ap (λ p. p.0) e) (λ s t u w e q j. (q j, (e j).1)) (on_bindings i arguments (slots_at rules id) (bindings_at rules id)))
       (on_through _ _ _ _ (λ s t e. e) (λ s t u w _ e. e) on_guarding)
 
-pub head_steady : (i : Input) (produced refinements : List ℕ) (n id : ℕ) → Steady (head i produced refinements n id)
+pub head_steady : (i : Input) (produced : List ℕ) (known : List Refinement) (id : ℕ) → Steady (head i produced known id)
 unfolding head
-head_steady i produced refinements n id = expression_steady i produced (refinements_of refinements n) id
+head_steady i produced known id = expression_steady i produced known id

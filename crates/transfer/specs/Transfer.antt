@@ -7,7 +7,7 @@ use Rattle.limits.specs.Meter.{released}
 use Rattle.lattice.specs.Value.{Value}
 use Rattle.rules.specs.Read.{slots_at, bindings_at, guards_at}
 use Rattle.slots.specs.Slots.{Slots, slots, total}
-use Rattle.refinements.specs.Refinement.{refinements_of}
+use Rattle.refinements.specs.Refinement.{Refinement}
 use Rattle.evaluation.specs.Evaluation.{Input, expression}
 use Rattle.bindings.specs.Bindings.{bind}
 use Rattle.guards.specs.Guards.{Local, local, guard}
@@ -40,6 +40,6 @@ guarding i rules id s = in_local (guard i s.domains (slots_at rules id) (guards_
 unfoldable pub rule : Input → List ℕ → ℕ → List ℕ → Metered Stop Frame ℕ
 rule i rules id arguments = in_domains (bind i arguments (slots_at rules id) (bindings_at rules id)) >> holding_domains (slots_at rules id) (guarding i rules id)
 
--- the value of a head, under the first n refinements
-unfoldable pub head : Input → List ℕ → List ℕ → ℕ → ℕ → Metered Stop Meter Value
-head i produced refinements n id = expression i produced (refinements_of refinements n) id
+-- the value of a head, under what the guards have recorded
+unfoldable pub head : Input → List ℕ → List Refinement → ℕ → Metered Stop Meter Value
+head i produced known id = expression i produced known id

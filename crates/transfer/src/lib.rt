@@ -5,6 +5,7 @@
 ghost use Rattle.std.specs.Prelude.{◌≡◌};
 ghost use Rattle.limits.specs.Metered.{answered};
 ghost use Rattle.lattice.specs.Answers.{answered_value};
+ghost use Rattle.refinements.specs.Refinement.{refinements_of};
 ghost use Rattle.evaluation.specs.Operands.{input_in};
 ghost use Rattle.transfer.specs.Transfer.{frame, rule, head};
 
@@ -42,7 +43,7 @@ pub fn head(
     id: u64,
     meter: &mut Meter,
 ) -> Result<Abstract, Stop>
-    ensures { answered_value result meter.new ≡ head (input_in input.now) produced.now refinements.now count id meter.old }
+    ensures { answered_value result meter.new ≡ head (input_in input.now) produced.now (refinements_of refinements.now count) id meter.old }
 {
     let scene = Scene {
         input: *input,

@@ -1,13 +1,21 @@
 -- `rounds::image` meets its contract.
 use Rattle.limits.proofs.Answering.{exits}
 use Rattle.limits.proofs.Monad.{then_stop, then_on, through_stop, through_on}
+use Rattle.rounds.specs.Lent.{given_in}
 use Rattle.rounds.specs.Round.{image}
+use Rattle.rounds.proofs.Anew.{candidates_anew}
 use Rattle.rounds.proofs.image.Goals as goal
 
 pub returns-in_err-pay : goal.returns-in_err-pay
 unfolding image
-returns-in_err-pay c = exits c.from_residual.result c.from_residual.ensures.1 (then_stop _ _ _ (through_stop _ _ _ _ _ _ c.in_err-pay.ensures))
+returns-in_err-pay c =
+    let a = c.args in
+    candidates_anew (given_in a.given.now) a.previous.now a.course.now.budget a.course.now.context a.res.now c.requires.0
+    (exits c.from_residual.result c.from_residual.ensures.1 (then_stop _ _ _ (through_stop _ _ _ _ _ _ c.in_err-pay.ensures)))
 
 pub returns : goal.returns
 unfolding image
-returns c = then_on _ _ _ (through_on _ _ _ _ _ _ c.in_ok-pay.ensures) c.produce.ensures
+returns c =
+    let a = c.args in
+    candidates_anew (given_in a.given.now) a.previous.now a.course.now.budget a.course.now.context a.res.now c.requires.0
+    (then_on _ _ _ (through_on _ _ _ _ _ _ c.in_ok-pay.ensures) c.produce.ensures)

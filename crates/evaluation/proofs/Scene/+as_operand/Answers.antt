@@ -1,6 +1,6 @@
 -- `evaluation::Scene::as_operand` meets its contract.
 use native.Mathlib.Omega.{arith}
-use mathlib.Core.Path.{ap, ◌∙◌}
+use mathlib.Core.Path.{refl, ap, ◌∙◌}
 use Rattle.limits.proofs.Answering.{went, broke, exits}
 use Rattle.lattice.specs.Value.{value_of}
 use Rattle.limits.proofs.Seen.{seen_went, seen_broke}
@@ -50,15 +50,9 @@ pub returns-in-Slot : goal.returns-in-Slot
 returns-in-Slot t c =
     c.slot.ensures ∙ ap sees (at_node _ _ _ _ _ (went c.work.ensures c.in_ok-work.was) c.expression_at.ensures c.in-Slot.is)
 
-pub returns-in_err-restrict-in-Unknown : goal.returns-in_err-restrict-in-Unknown
-returns-in_err-restrict-in-Unknown t c =
-    exits _ c.from_residual-in_err-restrict-in-Unknown.ensures.1
-    (ap sees (seen_broke value_of c.restrict-in-Unknown.ensures c.in_err-restrict-in-Unknown.was ∙ after_pure _ c.unknown-value.ensures ∙ at_node _ _ _ _ _ (went c.work.ensures c.in_ok-work.was) c.expression_at.ensures c.in-Unknown.is))
-
-pub returns-in_ok-restrict-in-Unknown : goal.returns-in_ok-restrict-in-Unknown
-returns-in_ok-restrict-in-Unknown t c =
-    sees_going (value_of c.in_ok-restrict-in-Unknown.field-0) c.from-in-Unknown.ensures
-    (seen_went value_of c.restrict-in-Unknown.ensures c.in_ok-restrict-in-Unknown.was ∙ after_pure _ c.unknown-value.ensures ∙ at_node _ _ _ _ _ (went c.work.ensures c.in_ok-work.was) c.expression_at.ensures c.in-Unknown.is)
+pub returns-in-Unknown : goal.returns-in-Unknown
+returns-in-Unknown t c =
+    c.unknown.ensures ∙ ap sees (after_pure _ refl ∙ at_node _ _ _ _ _ (went c.work.ensures c.in_ok-work.was) c.expression_at.ensures c.in-Unknown.is)
 
 pub returns-in_err-a-in-Unary : goal.returns-in_err-a-in-Unary
 returns-in_err-a-in-Unary t c =
