@@ -147,10 +147,11 @@ static uint64_t call_rule(void) {
 }
 
 /* The entry points by number; readings and lines are those from FIRST_READING on. */
-enum { CALLS = 26, FIRST_READING = 12 };
+enum { CALLS = 28, FIRST_READING = 12 };
 static const char *const names[CALLS] = {"fresh", "context", "work", "predicate", "argument", "constant", "constant", "expression", "seed_value",
     "seed_interval", "rule", "run", "argument read", "context_count", "context read", "status", "slot", "key", "name", "name", "status_line",
-    "argument_line", "slot_line d", "slot_line g", "statistics_line", "refusal_line"};
+    "argument_line", "slot_line d", "slot_line g", "statistics_line", "refusal_line",
+    "report_line", "line_count"};
 
 static uint64_t call(int which) {
     uint8_t seen;

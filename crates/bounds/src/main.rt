@@ -125,27 +125,23 @@ impl Design {
         )
     }
 
-    // The five lines. The store has one argument, and one rule with one slot.
-    fn report(&self, output: Stdout) {
+    fn line_count(&self) -> Result<u64, Refusal> {
+        report::line_count(&self.store, &self.arguments, &self.rules, &self.slots)
+    }
+
+    fn report(&self, output: Stdout, count: u64) {
         let mut line = [0; sizes::LINE];
-        let status = report::status_line(&self.store, &mut line);
-        tell(output, status, &line);
-        let argument = report::argument_line(&self.store, &self.arguments, &mut line, 0);
-        tell(output, argument, &line);
-        for after in [false, true] {
-            let slot = report::slot_line(
+        for k in 0..count {
+            let written = report::report_line(
                 &self.store,
+                &self.arguments,
                 &self.rules,
                 &self.slots,
                 &mut line,
-                0,
-                0,
-                after,
+                k,
             );
-            tell(output, slot, &line);
+            tell(output, written, &line);
         }
-        let statistics = report::statistics_line(&self.store, &mut line);
-        tell(output, statistics, &line);
     }
 }
 
@@ -212,11 +208,12 @@ fn counting(argument: u64, slot: u64, bound: u64, next: u64) -> Rule {
     }
 }
 
-// A design with its run, or the first refusal.
-fn bounded(design: &mut Design, fresh: Result<(), Refusal>) -> Result<(), Refusal> {
+// A design with its run: how many lines its report has, or the first refusal.
+fn bounded(design: &mut Design, fresh: Result<(), Refusal>) -> Result<u64, Refusal> {
     fresh?;
     design.build()?;
-    design.run()
+    design.run()?;
+    design.line_count()
 }
 
 fn main(rt: HostRuntime) {
@@ -224,7 +221,7 @@ fn main(rt: HostRuntime) {
     let (store, fresh) = store::fresh(limits());
     let mut design = Design::new(store);
     match bounded(&mut design, fresh) {
-        Ok(()) => design.report(output),
+        Ok(count) => design.report(output, count),
         Err(refusal) => complain(output, refusal),
     }
 }

@@ -21,6 +21,21 @@ pub fn put_cell(cells: &mut [u32], i: usize, cell: u32)
     }
 }
 
+// The same for a table of 64-bit words.
+pub fn word_at(words: &[u64], i: usize) -> u64
+    ensures { result ≡ get_or words.now i 0 }
+{
+    words.get(i).copied().unwrap_or(0)
+}
+
+pub fn put_word(words: &mut [u64], i: usize, word: u64)
+    ensures { words.new ≡ set words.old i word }
+{
+    if i < words.len() {
+        words[i] = word;
+    }
+}
+
 // A number as its cell holds it: shifted up by 2^31.
 pub fn to_cell(number: i32) -> u32
     ensures { result ≡ to_cell number }

@@ -1,5 +1,4 @@
-//! The codes of operators and reasons in a job. A code that no kind has stands for the last one: no `TryFrom`, since any word of a job,
-//! tested before or not, is read as some kind; and no `From`, since the kinds are other crates'.
+//! The codes of operators and reasons in a job, each a place in a table. No `TryFrom`, since the kinds are other crates'.
 #![tactic(auto)]
 
 ghost use Rattle.std.specs.Prelude.{◌≡◌};
@@ -8,41 +7,44 @@ ghost use Rattle.codes.specs.Codes.{unary_coded, binary_coded, reason_coded};
 use lattice::Widening;
 use nodes::{BinaryOp, UnaryOp};
 
-pub fn unary(code: u64) -> UnaryOp
+pub fn unary(code: u64) -> Option<UnaryOp>
     ensures { result ≡ unary_coded code }
 {
     match code {
-        0 => UnaryOp::Negate,
-        _ => UnaryOp::BitwiseNot,
+        0 => Some(UnaryOp::Negate),
+        1 => Some(UnaryOp::BitwiseNot),
+        _ => None,
     }
 }
 
-pub fn binary(code: u64) -> BinaryOp
+pub fn binary(code: u64) -> Option<BinaryOp>
     ensures { result ≡ binary_coded code }
 {
     match code {
-        0 => BinaryOp::Add,
-        1 => BinaryOp::Sub,
-        2 => BinaryOp::Mul,
-        3 => BinaryOp::Div,
-        4 => BinaryOp::Mod,
-        5 => BinaryOp::Pow,
-        6 => BinaryOp::BitAnd,
-        7 => BinaryOp::BitOr,
-        _ => BinaryOp::BitXor,
+        0 => Some(BinaryOp::Add),
+        1 => Some(BinaryOp::Sub),
+        2 => Some(BinaryOp::Mul),
+        3 => Some(BinaryOp::Div),
+        4 => Some(BinaryOp::Mod),
+        5 => Some(BinaryOp::Pow),
+        6 => Some(BinaryOp::BitAnd),
+        7 => Some(BinaryOp::BitOr),
+        8 => Some(BinaryOp::BitXor),
+        _ => None,
     }
 }
 
 // Reasons begin with 1.
-pub fn reason(code: u64) -> Widening
+pub fn reason(code: u64) -> Option<Widening>
     ensures { result ≡ reason_coded code }
 {
     match code {
-        1 => Widening::HeadForm,
-        2 => Widening::HeadTerm,
-        3 => Widening::UnboundVariable,
-        4 => Widening::SymbolSize,
-        5 => Widening::ValueWidth,
-        _ => Widening::Dependency,
+        1 => Some(Widening::HeadForm),
+        2 => Some(Widening::HeadTerm),
+        3 => Some(Widening::UnboundVariable),
+        4 => Some(Widening::SymbolSize),
+        5 => Some(Widening::ValueWidth),
+        6 => Some(Widening::Dependency),
+        _ => None,
     }
 }

@@ -6,3 +6,4 @@ pub mod Begun
 pub mod Finished
 pub mod Completed
 pub mod Steady
+pub mod Widened

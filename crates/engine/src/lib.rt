@@ -11,7 +11,7 @@ ghost use Rattle.limits.specs.Refusal.{replied};
 ghost use Rattle.rows.specs.Row.{padded};
 ghost use Rattle.thresholds.specs.Thresholds.{entry};
 ghost use Rattle.rounds.specs.Lent.{given_in};
-ghost use Rattle.rounds.specs.Round.{course};
+ghost use Rattle.rounds.specs.Round as round;
 ghost use Rattle.engine.specs.Run.{enter_ends, start, seeded, beginning, begin, progress, ascend_and_end, finish};
 ghost use Rattle.engine.specs.Call.{read, tables, sized, results_sized, spacious, given_of, ended_in, concluded, ran_on, run_call, Working, working, working_sized, values_left, run_leaves};
 ghost use Rattle.engine.specs.Lent.{fitting};
@@ -182,7 +182,7 @@ fn given_of<'a>(
 
 // The counts of a store, and the caller's context.
 fn course_of(store: &Store) -> Course
-    ensures { result ≡ course store.now.budget store.now.context }
+    ensures { result ≡ round.course store.now.budget store.now.context }
 {
     Course {
         budget: store.budget,

@@ -48,10 +48,10 @@ pub struct Operand {
 impl From<Abstract> for Operand {
     ghost from_gives = { λ v r. r ≡ operand (value_of v) };
 
-    fn from(value: Abstract) -> Operand {
+    fn from(whole: Abstract) -> Operand {
         Operand {
-            bound: value.bound,
-            entries: rows::entries_of(value),
+            bound: whole.bound,
+            entries: rows::entries_of(whole),
         }
     }
 }
@@ -167,18 +167,18 @@ impl<'a> Input<'a> {
 
 impl Scene<'_> {
     // What is known of an expression narrows its value, once it is worked out.
-    fn restrict(&self, value: Abstract, id: u64, meter: &mut Meter) -> Result<Abstract, Stop>
-        ensures { answered_value result meter.new ≡ restrict self.now.input.constants.now (known_of self.now) id (value_of value) meter.old }
+    fn restrict(&self, whole: Abstract, id: u64, meter: &mut Meter) -> Result<Abstract, Stop>
+        ensures { answered_value result meter.new ≡ restrict self.now.input.constants.now (known_of self.now) id (value_of whole) meter.old }
     {
         // Most expressions have none, and a value is then not handed on.
         if self.count == 0 {
-            return Ok(value);
+            return Ok(whole);
         }
         refinements::restrict(
             self.refinements,
             self.count,
             self.input.constants,
-            value,
+            whole,
             id,
             meter,
         )
@@ -248,7 +248,8 @@ impl Scene<'_> {
         self.restrict_interval(interval?, id, meter)
     }
 
-    // A slot that is narrowed, as an operand. Its ids are read only where it has a list.
+    // A slot that is narrowed, as an operand. Its ids are read only where it has a list. Not inlined, as `unknown` below is not.
+    #[inline(never)]
     fn narrow_slot(
         &self,
         slot: usize,

@@ -1,5 +1,5 @@
 -- The examples of 01 that are proved, one row each: a computation, and what it gives.
-use Rattle.std.specs.Prelude.{ℕ, ◌≡◌, List, [], ◌∷◌, pos, replicate}
+use Rattle.std.specs.Prelude.{ℕ, ◌*◌, ◌≡◌, List, [], ◌∷◌, pos, replicate}
 use Rattle.sizes.specs.Sizes as size
 use Rattle.std.proofs.Math.Option.{Option, some, none}
 use Rattle.limits.specs.declared.Limits.{Limits}
@@ -13,15 +13,19 @@ use Rattle.interval.specs.declared.Interval.TheVariants.{Bottom, Bounded}
 use Rattle.interval.specs.Interval.{hull_of, meet_of, endpoints_of, checked_of}
 use Rattle.interval.specs.Bound.{top_bound}
 use Rattle.lattice.specs.declared.Widening.TheVariants.{ValueWidth}
-use Rattle.std.specs.Prelude.{None, Some}
+use Rattle.std.specs.Prelude.{Option as Optional, None, Some}
 use Rattle.lattice.specs.Value.{Value, value}
 use Rattle.lattice.specs.Lattice.{join}
 use Rattle.store.specs.declared.Phase.TheVariants.{Open}
 use Rattle.store.specs.Store.{with_predicate, empty}
 use Rattle.store.specs.Calls.{bottoms}
 use Rattle.seeds.specs.Seed.{IntervalTables, interval_tables, seed_interval_call}
-use Rattle.affine.specs.declared.Shape.TheVariants.{Reversed}
-use Rattle.affine.specs.Affine.{solved}
+use Rattle.cells.specs.Cells.{to_cell}
+use Rattle.nodes.specs.declared.BinaryOp.TheVariants.{Sub}
+use Rattle.nodes.specs.declared.Expression.TheVariants.{Constant, Slot, Binary}
+use Rattle.nodes.specs.Node.{node_of, put_node}
+use Rattle.affine.specs.declared.Affine.{Affine}
+use Rattle.affine.specs.Affine.{affine, solved}
 use Rattle.widening.specs.declared.Wide.{Wide}
 use Rattle.widening.specs.Widening.{growth, wide, widen}
 
@@ -82,6 +86,18 @@ refused_by n = some record { number = n; values = [] }
 abbrev pub widening : Interval → Interval → ℕ → Option Wide
 widening old new growths = run (widen (pos 2 ∷ pos 9 ∷ []) old new (growth 0 growths))
 
+-- a table of constants whose first is 10, and one of expressions: 10, slot 3, and 10 − slot
+abbrev pub ten : List ℕ
+ten = 1 ∷ to_cell (pos 10) ∷ []
+
+abbrev pub ten_less_slot : List ℕ
+ten_less_slot = put_node (put_node (put_node (replicate (size.node_row * 3) 0) 0 (node_of (Constant 0)) 1) 1 (node_of (Slot 3)) 1) 2 (node_of (Binary Sub 0 1)) 2
+
+-- the slot of an affine expression, and where it lies if the expression lies in an interval
+abbrev pub solving : Optional Affine → Interval → Option (ℕ × Interval)
+solving None x = none
+solving (Some a) x = some (a.slot, solved a.shape a.constant (endpoints_of x))
+
 -- ---- the table
 
 abbrev pub table : List Example
@@ -105,5 +121,5 @@ table =
     -- K9 "one growth: 0..3"
     (widening (0 ‥ 2) (0 ‥ 3) 1 is some (wide (0 ‥ 3) (growth 0 2))) ∷
     -- K10 "10 − slot in 0..4: slot 6..10"
-    (solved Reversed (pos 10) (endpoints_of (0 ‥ 4)) is 6 ‥ 10) ∷
+    (solving (affine ten_less_slot ten 2) (0 ‥ 4) is some (3, 6 ‥ 10)) ∷
     []

@@ -9,11 +9,11 @@ use native.Mathlib.Numerals.{add-one}
 use mathlib.Core.Path.{◌≡◌, refl, sym, ap, ◌∙◌}
 use mathlib.Core.Bool.{Bool, true, false, cond}
 use mathlib.Core.List.{List}
-use borrow.Author.Tests.{lt-ltb, le-leb, eq-eqb, ne_eqb}
-use lib.Dec.{eqb}
+use borrow.Author.Tests.{lt-ltb, ltb-true, le-leb, eq-eqb, ne_eqb}
+use lib.Dec.{eqb, ltb}
 use lib.ListN.{length, get_or}
 use Rattle.std.proofs.Common.{Result, Ok, Err}
-use Rattle.integers.proofs.Tests.{and_false}
+use Rattle.integers.proofs.Tests.{and_left, and_false}
 use Rattle.limits.specs.declared.Stop.{Stop}
 use Rattle.limits.specs.declared.Budget.{Budget}
 use Rattle.limits.specs.declared.Meter.{Meter}
@@ -34,7 +34,7 @@ use Rattle.store.specs.declared.Store.{Store}
 use Rattle.store.specs.Store.{admits, with_budget, with_expressions}
 use Rattle.store.specs.Calls.{unless, billing as billed}
 use Rattle.store.proofs.CodeLaws.{charged_counts}
-use Rattle.expressions.specs.Expression.{supported, deepest, valid, shared, seek_node, older, Tables, tables, paying, settle, share, expression_call}
+use Rattle.expressions.specs.Expression.{supported, deepest, valid, shared, seek_node, older, Tables, tables, paying, settle, spacious, share, expression_call}
 
 -- ---- the search: the place
 
@@ -167,11 +167,11 @@ module _ (e : Expression) (s : Store) (nodes : List ℕ) (m : Meter) {r : Result
 -- ---- the call
 
 module _ (e : Expression) (s : Store) (nodes : List ℕ) {t o : Bool} {d : ℕ} (n : length nodes ≡ size.node_cells) (a : t ≡ supported e) (y : t ≡ true) (h : o ≡ admits s.phase) (q : o ≡ true)
-    (g : d ≡ deepest nodes s.counts.expressions e) (k : d < 64) (f : s.counts.expressions < 1024) where
+    (g : d ≡ deepest nodes s.counts.expressions e) (k : d < 64) {m : Bool} (f : m ≡ spacious s.counts) (l : m ≡ true) where
   -- what is left after the tests
   tested : expression_call e (tables s nodes) ≡ (paying (work 1) >> unless (λ (t : Tables). valid t.header.counts e) Missing (share e)) (tables s nodes)
   unfolding expression_call
-  tested = rw (eq-eqb (length nodes) size.node_cells n, ← a, y, ← h, q, ← g, le-leb (1 + d) 64 (omega arith), lt-ltb s.counts.expressions 1024 f)
+  tested = rw (eq-eqb (length nodes) size.node_cells n, ← a, y, ← h, q, ← g, le-leb (1 + d) 64 (omega arith), ← f, l)
 
   pub expression_work : {r : Told} {u : Store} → stopped r u ≡ billed (work 1) s → stopped r (tables u nodes) ≡ expression_call e (tables s nodes)
   expression_work p = rw tested (then_stop _ _ _ (through_stop _ _ _ _ (billed (work 1)) (tables s nodes) p))
@@ -181,7 +181,7 @@ module _ (e : Expression) (s : Store) (nodes : List ℕ) {t o : Bool} {d : ℕ} 
     same_counts = charged_counts (work 1) s p
 
     pub share_ready : (u.counts.expressions < 1024) × (deepest nodes u.counts.expressions e < 64) × (size.node_cells ≤ length nodes)
-    share_ready = rw same_counts (f, rw (← g) k, omega arith)
+    share_ready = rw same_counts (ltb-true s.counts.expressions 1024 (and_left (ltb s.counts.expressions 1024) _ (sym f ∙ l)), rw (← g) k, omega arith)
 
     module _ {v : Bool} (w : v ≡ valid u.counts e) where
       pub expression_missing : v ≡ false → stopped (told Missing) (tables u nodes) ≡ expression_call e (tables s nodes)

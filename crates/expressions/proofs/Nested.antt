@@ -35,7 +35,7 @@ use Rattle.store.specs.declared.Counts.{Counts}
 use Rattle.store.specs.Store.{with_budget, with_expressions}
 use Rattle.store.specs.Calls.{unless, open?}
 use Rattle.store.proofs.Frame.{Spent, spent_none, spent_more, Spends, spends_work, spends_links, spends_metered}
-use Rattle.expressions.specs.Expression.{ported, supported, child_nesting, nesting, valid, shared, seek_node, older, Tables, tables, paying, add_node, settle, share, expression_call}
+use Rattle.expressions.specs.Expression.{ported, supported, child_nesting, nesting, valid, shared, seek_node, older, Tables, tables, paying, add_node, settle, spacious, share, expression_call}
 
 -- ---- the table
 
@@ -417,14 +417,14 @@ expression_ends e t nest =
     (λ _.
     ends_test (leb (nesting t.nodes t.header.counts.expressions e) 64)
     (λ flat.
-    ends_test (ltb t.header.counts.expressions 1024)
+    ends_test (spacious t.header.counts)
     (λ room.
     ends_then (paying (work 1)) (unless (λ (t : Tables). valid t.header.counts e) Missing (share e)) t (paying_ends (λ _. Unit {0}) (spends_work 1) (any_value (work 1)) t)
     (λ _ u k.
     ends_test (valid u.header.counts e)
     (λ names.
     share_ends e t (eqb-true (length t.nodes) size.node_cells rows) ready (leb-true (nesting t.nodes t.header.counts.expressions e) 64 flat)
-    (ltb-true t.header.counts.expressions 1024 room) (rw k.0.is at names) nest u k.0)
+    (ltb-true t.header.counts.expressions 1024 (and_left (ltb t.header.counts.expressions 1024) _ room)) (rw k.0.is at names) nest u k.0)
     (λ _. stops record { spending = k.0; early = λ h. absurd (omega arith) }))
     (λ r u k. refused_late (spending_none t) k))
     (λ _. stops (refused_whole t Full)))

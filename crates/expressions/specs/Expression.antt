@@ -89,6 +89,10 @@ older nodes count e = cond (shared e) (seek_node nodes (node_of e) 0 count) (pur
 
 -- ---- the call
 
+-- 01, refusal 2: "1,024 expressions", and no more constants than their table has
+abbrev pub spacious : Counts → Bool
+spacious n = ltb n.expressions size.expressions && leb n.constants size.constants
+
 pub record Tables : Type 0 where
   pub header : Store
   pub nodes : List ℕ
@@ -118,5 +122,5 @@ expression_call e =
     (unless (λ t. supported e) Shape
     (unless (λ t. open? t.header) Closed
     (unless (λ t. leb (nesting t.nodes t.header.counts.expressions e) size.nesting) Shape
-    (unless (λ t. ltb t.header.counts.expressions size.expressions) Full
+    (unless (λ t. spacious t.header.counts) Full
     (paying (work 1) >> unless (λ t. valid t.header.counts e) Missing (share e))))))

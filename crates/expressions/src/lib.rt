@@ -7,7 +7,7 @@ ghost use Rattle.sizes.specs.Sizes as size;
 ghost use Rattle.limits.specs.Metered.{answered};
 ghost use Rattle.limits.specs.Refusal.{replied};
 ghost use Rattle.nodes.specs.Node.{same_node, node_at};
-ghost use Rattle.expressions.specs.Expression.{supported, child_nesting, deepest, valid, shared, seek_node, older, tables, share, expression_call};
+ghost use Rattle.expressions.specs.Expression.{supported, child_nesting, deepest, valid, shared, seek_node, older, spacious, tables, share, expression_call};
 
 use limits::{Meter, Refusal, Resource, Stop};
 use nodes::{BinaryOp, Expression, Node};
@@ -58,6 +58,13 @@ fn is_valid(counts: Counts, value: Expression) -> bool
         Expression::Binary(_, left, right) => left < expressions && right < expressions,
         _ => true,
     }
+}
+
+// Whether the table has room for one expression more, and that of constants has all that are counted.
+fn has_room(counts: Counts) -> bool
+    ensures { result ≡ spacious counts }
+{
+    counts.expressions < sizes::EXPRESSIONS && counts.constants <= sizes::CONSTANTS
 }
 
 fn is_shared(value: Expression) -> bool
@@ -160,7 +167,7 @@ pub fn expression(store: &mut Store, nodes: &mut [u64], value: Expression) -> Re
     if sizes::NESTING as u64 <= deepest(nodes, count, value) {
         return Err(Refusal::Shape);
     }
-    if sizes::EXPRESSIONS <= count {
+    if !has_room(store.counts) {
         return Err(Refusal::Full);
     }
     store.pay(Resource::Work, 1)?;

@@ -162,10 +162,10 @@ fn member(
 }
 
 // The two expressions that a guard works out.
-fn operands(guard: Guard) -> (u64, u64)
-    ensures { result ≡ operands guard }
+fn operands(test: Guard) -> (u64, u64)
+    ensures { result ≡ operands test }
 {
-    match guard {
+    match test {
         Guard::Compare { left, right, .. } => (left, right),
         Guard::Membership { low, high, .. } => (low, high),
     }
@@ -177,14 +177,14 @@ fn narrow(
     produced: &mut [u32],
     refinements: &mut [u32],
     count: usize,
-    guard: Guard,
+    test: Guard,
     a: Bound,
     b: Bound,
     meter: &mut Meter,
 ) -> Result<usize, Stop>
-    ensures { answered result (local meter.new produced.new refinements.new) ≡ narrowed (input_in input.now) count guard (bare a) (bare b) (local meter.old produced.old refinements.old) }
+    ensures { answered result (local meter.new produced.new refinements.new) ≡ narrowed (input_in input.now) count test (bare a) (bare b) (local meter.old produced.old refinements.old) }
 {
-    match guard {
+    match test {
         Guard::Compare {
             left,
             relation,
@@ -213,12 +213,12 @@ fn guard_one(
     produced: &mut [u32],
     refinements: &mut [u32],
     count: usize,
-    guard: Guard,
+    test: Guard,
     meter: &mut Meter,
 ) -> Result<usize, Stop>
-    ensures { answered result (local meter.new produced.new refinements.new) ≡ guard_one (input_in input.now) count guard (local meter.old produced.old refinements.old) }
+    ensures { answered result (local meter.new produced.new refinements.new) ≡ guard_one (input_in input.now) count test (local meter.old produced.old refinements.old) }
 {
-    let (first, second) = operands(guard);
+    let (first, second) = operands(test);
     let scene = Scene {
         input: *input,
         slots: produced,
@@ -231,7 +231,7 @@ fn guard_one(
         produced,
         refinements,
         count,
-        guard,
+        test,
         a.bound,
         b.bound,
         meter,

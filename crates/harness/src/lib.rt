@@ -2,11 +2,21 @@
 //! of a header say is a header. Each function answers the number of the refusal, 0 for none.
 #![tactic(auto)]
 
-mod header;
 mod parts;
 
 use keys::Key;
 use limits::Refusal;
+use store::Phase;
+
+// A refusal by the phase's word: one that carries the stop, or another one.
+fn refusal_of(words: &[u64]) -> Refusal {
+    match header::of(words).phase {
+        Phase::Absent => Refusal::Closed,
+        Phase::Open => Refusal::Shape,
+        Phase::Completed => Refusal::Full,
+        Phase::Stopped(stop, _) => Refusal::Limit(stop),
+    }
+}
 
 // The number of a refusal, 0 for none.
 fn code<T: Copy>(answer: Result<T, Refusal>) -> u64 {
@@ -230,12 +240,16 @@ pub extern "C" fn harness_line(
     line: &mut [u8],
 ) -> u64 {
     let store = header::of(words);
+    if call == 7 {
+        return code(report::line_count(&store, arguments, rules, slots));
+    }
     code(match call {
         0 => report::status_line(&store, line),
         1 => report::argument_line(&store, arguments, line, a),
         2 => report::slot_line(&store, rules, slots, line, a, b, false),
         3 => report::slot_line(&store, rules, slots, line, a, b, true),
         4 => report::statistics_line(&store, line),
-        _ => report::refusal_line(line, header::refusal_of(words)),
+        5 => report::refusal_line(line, refusal_of(words)),
+        _ => report::report_line(&store, arguments, rules, slots, line, a),
     })
 }

@@ -4,7 +4,7 @@ use Prim.Native.Nat.{ℕ, ◌+◌, ◌^◌, ◌≤◌, ◌<◌}
 use native.Mathlib.Omega.{arith}
 use mathlib.Core.Path.{◌≡◌, refl, ap, ◌∙◌}
 use mathlib.Core.Logic.{◌⊎◌, inl, inr}
-use mathlib.Core.Bool.{true, ◌&&◌}
+use mathlib.Core.Bool.{true}
 use lib.Dec.{leb, ltb, eqb}
 use lib.ListN.{length}
 use Rattle.limits.specs.Refusal.{Told}
@@ -100,8 +100,11 @@ argument_keeps p i t r =
     (λ _.
     ends_test (open? t.header)
     (λ _.
-    ends_test (ltb p 64 && ltb p t.header.counts.predicates)
+    ends_test (leb t.header.counts.predicates 64)
+    (λ _.
+    ends_test (ltb p t.header.counts.predicates)
     (λ _. ends_test (ltb i (arity_of t.predicates p)) (λ _. ends_pure (first_argument t.predicates p + i) t.header (record { reached = r; stay = λ z h. h })) (λ _. stops (refused_none r _)))
+    (λ _. stops (refused_none r _)))
     (λ _. stops (refused_none r _)))
     (λ _. stops (refused_none r _)))
     (λ _. stops (refused_none r _)))

@@ -3,14 +3,13 @@ use Rattle.sizes.specs.Sizes as size
 use Prim.Native.Nat.{ℕ, ◌+◌, ◌≤◌, ◌<◌}
 use native.Mathlib.Omega.{arith}
 use mathlib.Core.Path.{◌≡◌, refl, ap}
-use mathlib.Core.Bool.{Bool, true, false, cond, ◌&&◌}
+use mathlib.Core.Bool.{Bool, true, false, cond}
 use mathlib.Core.List.{List}
 use borrow.Author.Tests.{leb-true, le-leb, ltb-true}
 use lib.Dec.{leb, ltb, eqb}
 use lib.IntN.{ℤ}
 use lib.ListN.{length}
 use Rattle.integers.specs.Order.{Number}
-use Rattle.integers.proofs.Tests.{and_right}
 use Rattle.integers.proofs.ListLaws.{Compared, less, more, same, compared}
 use Rattle.limits.specs.declared.Limits.{Limits}
 use Rattle.limits.specs.declared.Refusal.TheVariants.{Shape}
@@ -165,11 +164,14 @@ module _ {t : Tables} (r : Reached t) where
       (λ _.
       ends_test (open? t.header)
       (λ _.
-      ends_test (ltb p 64 && ltb p t.header.counts.predicates)
+      ends_test (leb t.header.counts.predicates 64)
+      (λ _.
+      ends_test (ltb p t.header.counts.predicates)
       (λ h.
       ends_test (ltb i (arity_of t.predicates p))
       (λ k.
-      ends_pure (first_argument t.predicates p + i) t.header (argument_exists p i (ltb-true p t.header.counts.predicates (and_right (ltb p 64) _ h)) (ltb-true i (arity_of t.predicates p) k)))
+      ends_pure (first_argument t.predicates p + i) t.header (argument_exists p i (ltb-true p t.header.counts.predicates h) (ltb-true i (arity_of t.predicates p) k)))
+      (λ _. stops tt))
       (λ _. stops tt))
       (λ _. stops tt))
       (λ _. stops tt))

@@ -1,6 +1,7 @@
 pub mod Tests
 pub mod OrderLaws
 pub mod Sums
+pub mod Totals
 pub mod Products
 pub mod Bits
 pub mod ListLaws

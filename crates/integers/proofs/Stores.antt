@@ -4,7 +4,7 @@ use native.Mathlib.Omega.{arith}
 use native.Mathlib.Nat.{add-zero}
 use native.Mathlib.Decide.{dec_lt, dec_le}
 use mathlib.Core.Path.{◌≡◌, refl, sym, ap, subst, ◌∙◌}
-use mathlib.Core.List.{List, [], ◌∷◌}
+use mathlib.Core.List.{List, [], ◌∷◌, ◌++◌}
 use lib.ListN.{length, get_or, take, drop, set, length-set, length-take, length-drop, drop_of_length-le}
 use lib.Seq.{sets, drop-cons, take_all, set_out, get_or-set_same, get_or-set_other, get_or-take, get_or-drop, ext_get_or}
 use Rattle.integers.specs.Lists.{All}
@@ -32,6 +32,11 @@ module _ {A : Type 0} where
   pub sets_out : (vs l : List A) (b : ℕ) → length l ≤ b → sets l b vs ≡ l
   sets_out [] l b h = refl
   sets_out (v ∷ vs) l b h = ap (λ (m : List A). sets m (suc b) vs) (set_out l b v h) ∙ sets_out vs l (suc b) (omega arith)
+
+  -- what is stored in two parts
+  pub sets_both : (l : List A) (b : ℕ) (xs ys : List A) → sets l b (xs ++ ys) ≡ sets (sets l b xs) (b + length xs) ys
+  sets_both l b [] ys = ap (λ (n : ℕ). sets l n ys) (omega arith)
+  sets_both l b (x ∷ xs) ys = sets_both (set l b x) (suc b) xs ys ∙ ap (λ (n : ℕ). sets (sets (set l b x) (suc b) xs) n ys) (omega arith)
 
   -- so a start beyond the end may be cut to it
   pub sets_min : (vs l : List A) (b : ℕ) → sets l (min b (length l)) vs ≡ sets l b vs

@@ -197,12 +197,12 @@ impl Meeting<'_> {
     }
 
     // What is left of a list: the ids that stay.
-    fn sift(&self, source: &[u16], meter: &mut Meter) -> Result<Ids, Stop>
-        requires { length source.now ≤ size.width }
-        ensures { seen ids_of result meter.new ≡ sift (value_of self.now.left.now) (value_of self.now.right.now) self.now.bound self.now.constants.now [] source.now meter.old }
+    fn sift(&self, list: &[u16], meter: &mut Meter) -> Result<Ids, Stop>
+        requires { length list.now ≤ size.width }
+        ensures { seen ids_of result meter.new ≡ sift (value_of self.now.left.now) (value_of self.now.right.now) self.now.bound self.now.constants.now [] list.now meter.old }
     {
         let mut kept = Ids::new();
-        for id in source {
+        for id in list {
             if self.keep_one(kept.len() as u64, *id, meter)? {
                 kept.push(*id);
             }
@@ -223,12 +223,12 @@ impl Meeting<'_> {
         Ok(self.bound.meet(held))
     }
 
-    // What is left of `source`, and the bound shrunk to it.
-    fn through(&self, source: &[u16], meter: &mut Meter) -> Result<Abstract, Stop>
-        requires { length source.now ≤ size.width }
-        ensures { answered_value result meter.new ≡ meet_lists (value_of self.now.left.now) (value_of self.now.right.now) self.now.bound self.now.constants.now (some source.now) meter.old }
+    // What is left of a list, and the bound shrunk to it.
+    fn through(&self, list: &[u16], meter: &mut Meter) -> Result<Abstract, Stop>
+        requires { length list.now ≤ size.width }
+        ensures { answered_value result meter.new ≡ meet_lists (value_of self.now.left.now) (value_of self.now.right.now) self.now.bound self.now.constants.now (some list.now) meter.old }
     {
-        let kept = self.sift(source, meter)?;
+        let kept = self.sift(list, meter)?;
         let bound = self.reduce(kept.as_slice(), meter)?;
         Ok(listed(bound, kept, None))
     }

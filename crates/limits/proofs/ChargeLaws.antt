@@ -16,7 +16,7 @@ use Rattle.limits.specs.declared.Refusal.{Refusal}
 use Rattle.limits.specs.declared.Refusal.TheVariants.{Closed, Shape, Full, Limit, Missing, Descending, MissingSlot}
 use Rattle.limits.specs.Charge.{stop_of, observed, charge_of}
 use Rattle.limits.specs.Refusal.{resource_number, told}
-use Rattle.limits.specs.Records.{limit_of, count_of, with_count, statistics, same?, with_statistics}
+use Rattle.limits.specs.Records.{limit_of, count_of, with_count, with_statistics}
 use Rattle.limits.specs.Metered.{Run, going, stopped, through, mapped}
 use Rattle.limits.specs.Budget.{charge, charged}
 use Rattle.limits.specs.Meter.{meter_of, with_meter, metered}
@@ -47,24 +47,57 @@ number_tells InspectedBytes = refl
 pub one_number : (q r : Resource) → resource_number q ≡ resource_number r → q ≡ r
 one_number q r e = sym (number_tells q) ∙ ap resource_at e ∙ number_tells r
 
-pub count_statistics : (q : Resource) (f : Resource → ℕ) (n : ℕ) → count_of q (statistics f n) ≡ f q
-count_statistics Work f n = refl
-count_statistics Predicates f n = refl
-count_statistics Positions f n = refl
-count_statistics Links f n = refl
-count_statistics ValueEntries f n = refl
-count_statistics Rounds f n = refl
-count_statistics InspectedBytes f n = refl
+-- the statistics that have these counts
+family : (Resource → ℕ) → ℕ → Statistics
+family f widened = record {
+  work = f Work;
+  predicates = f Predicates;
+  positions = f Positions;
+  links = f Links;
+  entries = f ValueEntries;
+  rounds = f Rounds;
+  bytes = f InspectedBytes;
+  widened = widened;
+}
+
+count_family : (q : Resource) (f : Resource → ℕ) (n : ℕ) → count_of q (family f n) ≡ f q
+unfolding family
+count_family Work f n = refl
+count_family Predicates f n = refl
+count_family Positions f n = refl
+count_family Links f n = refl
+count_family ValueEntries f n = refl
+count_family Rounds f n = refl
+count_family InspectedBytes f n = refl
+
+same? : Resource → Resource → Bool
+same? q r = eqb (resource_number q) (resource_number r)
+
+as_family : (r : Resource) (n : ℕ) (s : Statistics) → with_count r n s ≡ family (λ q. cond (same? q r) n (count_of q s)) s.widened
+unfolding family same?
+as_family Work n s = refl
+as_family Predicates n s = refl
+as_family Positions n s = refl
+as_family Links n s = refl
+as_family ValueEntries n s = refl
+as_family Rounds n s = refl
+as_family InspectedBytes n s = refl
 
 module _ (r : Resource) (n : ℕ) (s : Statistics) where
+  pub widened_with : (with_count r n s).widened ≡ s.widened
+  unfolding family
+  widened_with = ap (λ (t : Statistics). t.widened) (as_family r n s)
+
   -- what a count is afterwards, by whether it is the one that was set
   count_by : (q : Resource) → count_of q (with_count r n s) ≡ cond (same? q r) n (count_of q s)
-  count_by q = count_statistics q (λ p. cond (same? p r) n (count_of p s)) s.widened
+  count_by q = ap (count_of q) (as_family r n s) ∙ count_family q (λ p. cond (same? p r) n (count_of p s)) s.widened
 
   pub count_with : count_of r (with_count r n s) ≡ n
+  unfolding same?
   count_with = count_by r ∙ ap (λ (t : Bool). cond t n (count_of r s)) (eq-eqb (resource_number r) (resource_number r) refl)
 
   pub count_other : (q : Resource) → (q ≡ r → ⊥) → count_of q (with_count r n s) ≡ count_of q s
+  unfolding same?
   count_other q d = count_by q ∙ ap (λ (t : Bool). cond t n (count_of q s)) (ne_eqb (resource_number q) (resource_number r) (λ e. d (one_number q r e)))
 
 -- ---- a charge
@@ -133,7 +166,7 @@ module _ (r : Resource) (amount : ℕ) (b : Budget) where
         limits = refl;
         grown = count_with r (count_of r b.statistics + amount) b.statistics;
         others = count_other r (count_of r b.statistics + amount) b.statistics;
-        widened = refl;
+        widened = widened_with r (count_of r b.statistics + amount) b.statistics;
       }
 
       go : {x : Run Stop Budget (Unit {0})} → Charges r amount b x → x ≡ going tt b' → Added b'

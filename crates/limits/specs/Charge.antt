@@ -6,7 +6,7 @@ use Rattle.limits.specs.Metered.{Run, going, stopped, Metered, pure, ◌>>◌}
 
 -- 01: "128-bit sums: two 64-bit halves"
 abbrev pub stop_of : Resource → ℕ → ℕ → Stop
-stop_of r limit observed = record { resource = r; limit = limit; high = observed / 2 ^ 64; low = observed % 2 ^ 64 }
+stop_of r limit sum = record { resource = r; limit = limit; high = sum / 2 ^ 64; low = sum % 2 ^ 64 }
 
 abbrev pub observed : Stop → ℕ
 observed s = s.high * 2 ^ 64 + s.low

@@ -124,16 +124,16 @@ fn charge_count(resource: Resource, count: &mut u64, amount: u64, limit: u64) ->
     Ok(())
 }
 
-// `units` charges of one unit each, of one count. The first that is refused ends them, and those before it stay charged.
-pub fn charge_units(resource: Resource, count: &mut u64, units: u64, limit: u64) -> Result<(), Stop>
-    ensures { answered result count.new ≡ units_of resource limit units count.old }
+// `times` charges of one unit each, of one count. The first that is refused ends them, and those before it stay charged.
+pub fn charge_units(resource: Resource, count: &mut u64, times: u64, limit: u64) -> Result<(), Stop>
+    ensures { answered result count.new ≡ units_of resource limit times count.old }
 {
     let room = limit.saturating_sub(*count);
-    if room < units {
+    if room < times {
         *count += room;
         return charge_count(resource, count, 1, limit);
     }
-    *count += units;
+    *count += times;
     Ok(())
 }
 

@@ -2,10 +2,11 @@
 //! the table read as 0 and are not written; any contents read as an expression whose children have smaller ids.
 #![tactic(auto)]
 
-ghost use Rattle.std.specs.Prelude.{◌≡◌, ◌*◌, min, get_or, set};
+ghost use Rattle.std.specs.Prelude.{◌≡◌, ◌*◌, min};
 ghost use Rattle.sizes.specs.Sizes as size;
 ghost use Rattle.nodes.specs.Node.{unary_number, binary_number, node_of, widening_of, read_unary, read_binary, expression_of, node_at, nesting_at, expression_at, put_node};
 
+use cells::{put_word, word_at};
 use lattice::Widening;
 
 #[derive(Clone, Copy, Debug, PartialEq, Eq)]
@@ -108,22 +109,6 @@ fn start(len: usize, id: usize) -> usize
     ensures { result ≡ min (size.node_row * id) len }
 {
     sizes::NODE_ROW.saturating_mul(id).min(len)
-}
-
-// A cell, or 0 beyond the table.
-fn word_at(cells: &[u64], i: usize) -> u64
-    ensures { result ≡ get_or cells.now i 0 }
-{
-    cells.get(i).copied().unwrap_or(0)
-}
-
-// A cell beyond the table is not written. An index, since std's `get_mut` does not say what the slice ends as.
-fn put_word(cells: &mut [u64], i: usize, word: u64)
-    ensures { cells.new ≡ set cells.old i word }
-{
-    if i < cells.len() {
-        cells[i] = word;
-    }
 }
 
 pub fn node_at(cells: &[u64], id: usize) -> Node

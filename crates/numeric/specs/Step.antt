@@ -1,18 +1,17 @@
 -- All calls on one state: the header and the lent tables. Each is what its own crate says of it.
-use Rattle.std.specs.Prelude.{ℕ, Bool, List, [], ◌∷◌}
+use Rattle.std.specs.Prelude.{ℕ, List, [], ◌∷◌}
 use Rattle.limits.specs.declared.Limits.{Limits}
 use Rattle.limits.specs.Refusal.{Told}
 use Rattle.limits.specs.Metered.{Run, going, stopped}
-use Rattle.interval.specs.declared.Bound.{Bound}
-use Rattle.lattice.specs.Value.{Value}
 use Rattle.store.specs.declared.Store.{Store}
 use Rattle.store.specs.Store.{fresh_of}
 use Rattle.input.specs.Input.{Tables, tables, with_header, call}
 use Rattle.input.specs.Input as input
 use Rattle.engine.specs.Call.{Working, read, run_call}
 use Rattle.engine.specs.Call as engine
-use Rattle.numeric.specs.Reading.{Reading, given, Kind, Status, argument_reading, context_count_reading, context_reading, slot_reading, key_reading, name_reading, status_reading}
-use Rattle.numeric.specs.Reading as reading
+use Rattle.numeric.specs.Question.{Question, argument, context_count, context, slot, key, name, status, Shown, value, number, bound, kind, bytes, ended, showing}
+use Rattle.numeric.specs.Reading.{Reading, given, argument_reading, context_count_reading, context_reading, slot_reading, key_reading, name_reading, status_reading}
+use Rattle.numeric.specs.Reading as readings
 
 -- ---- calls and their answers
 
@@ -21,25 +20,14 @@ pub data Call : Type 0 where
   store : input.Call → Call
   -- lent tables to work in, which may hold anything
   run : Working → Call
-  argument : ℕ → Call
-  context_count : ℕ → Call
-  context : ℕ → ℕ → Call
-  slot : ℕ → ℕ → Bool → Call
-  key : ℕ → Call
-  name : ℕ → Call
-  status : Call
+  reading : Question → Call
 
 pub data Answer : Type 0 where
   refused : Told → Answer
   reply : input.Reply → Answer
   -- the run was taken, whether it has completed or stopped
   ran : Answer
-  value : Value → Answer
-  number : ℕ → Answer
-  bound : Bound → Answer
-  kind : Kind → Answer
-  bytes : List ℕ → Answer
-  ended : Status → Answer
+  shows : Shown → Answer
 
 -- ---- the state: the store's tables, and the two that a run writes
 
@@ -79,20 +67,24 @@ abbrev pub on_run : State → Run Told engine.Tables (Unit {0}) → Stepped
 on_run s (going r u) = stepped ran (from_run u s)
 on_run s (stopped e u) = stepped (refused e) (from_run u s)
 
-abbrev pub on_reading : {A : Type 0} → (A → Answer) → State → Reading A → Stepped
-on_reading f s (given a) = stepped (f a) s
-on_reading f s (reading.refused e) = stepped (refused e) s
+-- a reading changes nothing
+abbrev pub ask : Question → State → Reading Shown
+ask (argument a) s = showing value (argument_reading s.tables.header s.arguments a)
+ask (context_count a) s = showing number (context_count_reading s.tables.header s.tables.records a)
+ask (context a k) s = showing number (context_reading s.tables.header s.tables.records a k)
+ask (slot r k after) s = showing bound (slot_reading s.tables.header s.tables.rules s.slots r k after)
+ask (key k) s = showing kind (key_reading s.tables.header s.tables.constants k)
+ask (name k) s = showing bytes (name_reading s.tables.header s.tables.names s.tables.constants k)
+ask status s = showing ended (status_reading s.tables.header)
+
+abbrev pub on_reading : State → Reading Shown → Stepped
+on_reading s (given a) = stepped (shows a) s
+on_reading s (readings.refused e) = stepped (refused e) s
 
 unfoldable pub step : Call → State → Stepped
 step (store c) s = on_store s (call c s.tables)
 step (run w) s = on_run s (run_call (read s.tables.nodes s.tables.constants s.tables.rules s.tables.seeds) w (for_run s))
-step (argument a) s = on_reading value s (argument_reading s.tables.header s.arguments a)
-step (context_count a) s = on_reading number s (context_count_reading s.tables.header s.tables.records a)
-step (context a k) s = on_reading number s (context_reading s.tables.header s.tables.records a k)
-step (slot r k after) s = on_reading bound s (slot_reading s.tables.header s.tables.rules s.slots r k after)
-step (key k) s = on_reading kind s (key_reading s.tables.header s.tables.constants k)
-step (name k) s = on_reading bytes s (name_reading s.tables.header s.tables.names s.tables.constants k)
-step status s = on_reading ended s (status_reading s.tables.header)
+step (reading q) s = on_reading s (ask q s)
 
 -- ---- a list of calls
 

@@ -42,7 +42,7 @@ module _ {K : Type 0} (num : K → Option ℤ) (Key : ℕ → K → Type 0) wher
 
 module _ (width : ℕ) (thresholds : List ℤ) (old candidate : Value) (g : Growth) where
   -- what is made of the joined value, whatever it is compared with
-  widened : (P : Grown → Type 0) (v : Value) → Ensures (λ w. (t : Bool) → P (grown (within w.interval v) w.growth t)) (widen thresholds old.bound.interval v.bound.interval g) → Ensures P (widen_value thresholds old v g)
+  pub widened : (P : Grown → Type 0) (v : Value) → Ensures (λ w. (t : Bool) → P (grown (within w.interval v) w.growth t)) (widen thresholds old.bound.interval v.bound.interval g) → Ensures P (widen_value thresholds old v g)
   unfolding widen_value with_change
   widened P v h = bind (by_through _ _ _ _ _ h) (λ w p. bind (any_value _) (λ s _. by_pure _ (p (not s))))
 

@@ -7,3 +7,4 @@ pub mod Steady
 pub mod StepLaws
 pub mod Anew
 pub mod PassLaws
+pub mod Widened

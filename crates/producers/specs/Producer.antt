@@ -118,7 +118,7 @@ shapely r =
     leb r.slots size.slots && (leb r.lengths.bindings size.bindings && (leb r.lengths.guards size.guards && (leb r.lengths.heads size.heads && eqb r.lengths.queries 0)))
 
 abbrev pub sized : ℕ → ℕ → ℕ → Bool
-sized nodes rules records = eqb nodes size.node_cells && (eqb rules size.rule_cells && eqb records size.record_cells)
+sized nodes rules pairs = eqb nodes size.node_cells && (eqb rules size.rule_cells && eqb pairs size.record_cells)
 
 -- refusal 2; more rows than the tables have meet it as well
 abbrev pub spacious : Store → Bool

@@ -8,7 +8,8 @@ ghost use Rattle.limits.specs.declared.Meter.{Meter};
 ghost use Rattle.limits.specs.Metered.{Metered};
 ghost use Rattle.limits.specs.Refusal.{Told, replied};
 ghost use Rattle.store.specs.Calls.{billing};
-ghost use Rattle.provenance.specs.Provenance.{records, Room};
+ghost use Rattle.provenance.specs.Provenance.{Room};
+ghost use Rattle.provenance.specs.Provenance as provenance;
 ghost use Rattle.producers.specs.Producer.{Scope, each, slot_in, check_expression, check_pair, check_body, check_value, check_head, check_heads, check_rule, shapely, sized, spacious, cost, tables, rule_call};
 ghost use Rattle.producers.specs.Scopes.{scope_in};
 
@@ -96,7 +97,7 @@ impl Checker<'_> {
     // A head: its expression, then its argument, which is recorded at once.
     fn check_head(self, store: &mut Store, table: &mut [u32], head: Head) -> Result<(), Refusal>
         requires { (store.old.counts.positions ≤ size.positions) × Room 1 store.old.context store.old.counts.provenance }
-        ensures { replied result (records store.new table.new) ≡ check_head (scope_in self.entry) head (records store.old table.old) }
+        ensures { replied result (provenance.records store.new table.new) ≡ check_head (scope_in self.entry) head (provenance.records store.old table.old) }
     {
         let mut meter = store.budget.meter();
         let checked = self.check_value(head.value, &mut meter);
@@ -113,7 +114,7 @@ impl Checker<'_> {
         heads: &[Head],
     ) -> Result<(), Refusal>
         requires { (length heads.now ≤ size.heads) × ((store.old.counts.positions ≤ size.positions) × Room (length heads.now) store.old.context store.old.counts.provenance) }
-        ensures { replied result (records store.new table.new) ≡ check_heads (scope_in self.entry) heads.now (records store.old table.old) }
+        ensures { replied result (provenance.records store.new table.new) ≡ check_heads (scope_in self.entry) heads.now (provenance.records store.old table.old) }
     {
         for head in heads {
             self.check_head(store, table, *head)?;
@@ -224,7 +225,7 @@ fn check_rule(
     rule: &Rule,
 ) -> Result<(), Refusal>
     requires { (shapely rule.now ≡ true) × ((store.old.counts.positions ≤ size.positions) × Room size.heads store.old.context store.old.counts.provenance) }
-    ensures { replied result (records store.new table.new) ≡ check_rule nodes.now rule.now (records store.old table.old) }
+    ensures { replied result (provenance.records store.new table.new) ≡ check_rule nodes.now rule.now (provenance.records store.old table.old) }
 {
     let checker = Checker {
         nodes,

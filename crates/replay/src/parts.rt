@@ -105,26 +105,26 @@ pub fn name(reader: &mut Reader, bytes: &mut [u8; NAME]) -> Result<usize, Malfor
     Ok(len)
 }
 
+// What a code stands for. A text with a code that its table does not have is no job.
+fn coded<T: Copy>(kind: Option<T>) -> Result<T, Malformed> {
+    kind.ok_or(Malformed {})
+}
+
 // The expression of the calls 10 to 15.
 pub fn expression(reader: &mut Reader, call: u64) -> Result<Expression, Malformed> {
     Ok(match call {
         10 => Expression::Constant(reader.wide()?),
         11 => Expression::Slot(reader.wide()?),
-        12 => Expression::Unary(codes::unary(reader.number(1)?), reader.wide()?),
+        12 => Expression::Unary(coded(codes::unary(reader.wide()?))?, reader.wide()?),
         13 => Expression::Absolute(reader.wide()?),
         14 => Expression::Binary(
-            codes::binary(reader.number(8)?),
+            coded(codes::binary(reader.wide()?))?,
             reader.wide()?,
             reader.wide()?,
         ),
         _ => {
             let integer = reader.number(1)? == 1;
-            let reason = reader.number(6)?;
-            // A reason is a number from 1 on.
-            if reason == 0 {
-                return Err(Malformed {});
-            }
-            Expression::Unknown(integer, codes::reason(reason))
+            Expression::Unknown(integer, coded(codes::reason(reader.wide()?))?)
         }
     })
 }

@@ -1,6 +1,7 @@
 //! Standard input as the text of a job: decimal integers, parted by spaces and line feeds. The buffer is filled anew once it is used up,
 //! so that a text of any length can be read.
 use std::io::{Read, Stdin};
+use words::Word;
 
 // The text is no job.
 #[derive(Clone, Copy, Debug, PartialEq, Eq)]
@@ -63,38 +64,27 @@ impl Reader {
         None
     }
 
-    // The digits up to the end of a word.
-    fn digits(&mut self) -> Result<u64, Malformed> {
-        let mut value = None;
+    // The next word, part by part: it may go on behind the end of the buffer.
+    fn word(&mut self) -> Result<Word, Malformed> {
+        self.next_word();
+        let mut word = Word::new();
         for _ in 0..u64::MAX {
-            match self.peek() {
-                Some(byte @ b'0'..=b'9') => {
-                    value = Some(with_digit(value.unwrap_or(0), byte - b'0')?);
-                    self.pass();
-                }
-                None | Some(b' ' | b'\n') => return value.ok_or(Malformed {}),
-                Some(_) => return Err(Malformed {}),
+            self.fill();
+            let rest = self.bytes.get(self.at..self.end).unwrap_or(&[]);
+            let part = words::first_word(rest);
+            let len = part.len();
+            word = word.read(part).ok_or(Malformed {})?;
+            self.at = self.at.saturating_add(len);
+            if self.at < self.end || self.over {
+                return Ok(word);
             }
         }
         Err(Malformed {})
     }
 
-    // The next word, which is to be an integer: its sign, and its size.
-    fn integer(&mut self) -> Result<(bool, u64), Malformed> {
-        let negative = self.next_word() == Some(b'-');
-        if negative {
-            self.pass();
-        }
-        Ok((negative, self.digits()?))
-    }
-
     // A number from 0 to `most`.
     pub fn number(&mut self, most: u64) -> Result<u64, Malformed> {
-        let (negative, value) = self.integer()?;
-        if most < value || (negative && value != 0) {
-            return Err(Malformed {});
-        }
-        Ok(value)
+        self.word()?.natural(most).ok_or(Malformed {})
     }
 
     // An id, a position, a slot, an arity or a limit.
@@ -104,9 +94,7 @@ impl Reader {
 
     // A number of 32 signed bits.
     pub fn signed(&mut self) -> Result<i32, Malformed> {
-        let (negative, value) = self.integer()?;
-        let size = i64::try_from(value).map_err(|_| Malformed {})?;
-        i32::try_from(if negative { -size } else { size }).map_err(|_| Malformed {})
+        self.word()?.signed().ok_or(Malformed {})
     }
 
     // The number of the next call, or none at the end of the text.
@@ -116,9 +104,4 @@ impl Reader {
         }
         Ok(Some(self.number(51)?))
     }
-}
-
-fn with_digit(value: u64, digit: u8) -> Result<u64, Malformed> {
-    let shifted = value.checked_mul(10).ok_or(Malformed {})?;
-    shifted.checked_add(u64::from(digit)).ok_or(Malformed {})
 }

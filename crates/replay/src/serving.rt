@@ -178,19 +178,33 @@ impl Session {
 
     // The lines of a run that has ended.
     fn report(&mut self) {
-        let mut line = [0; sizes::LINE];
-        let written = report::status_line(&self.store, &mut line);
-        self.writer.line(written, &line);
-        if self.store.phase == Phase::Completed {
-            for argument in 0..self.store.counts.positions as u64 {
-                self.argument_line(argument);
-            }
-            for rule in 0..self.store.counts.rules as u64 {
-                self.rule_lines(rule);
-            }
+        let tables = &self.tables;
+        let counted = report::line_count(
+            &self.store,
+            &tables.arguments,
+            &tables.rules,
+            &tables.slots,
+        );
+        match counted {
+            Ok(count) => self.report_lines(count),
+            Err(refusal) => self.writer.refused(refusal),
         }
-        let written = report::statistics_line(&self.store, &mut line);
-        self.writer.line(written, &line);
+    }
+
+    fn report_lines(&mut self, count: u64) {
+        let mut line = [0; sizes::LINE];
+        let tables = &self.tables;
+        for k in 0..count {
+            let written = report::report_line(
+                &self.store,
+                &tables.arguments,
+                &tables.rules,
+                &tables.slots,
+                &mut line,
+                k,
+            );
+            self.writer.line(written, &line);
+        }
     }
 
     // The calls 40 to 43.
@@ -214,13 +228,6 @@ impl Session {
             argument,
         );
         self.writer.line(written, &line);
-    }
-
-    fn rule_lines(&mut self, rule: u64) {
-        for slot in 0..rules::slots_at(&self.tables.rules, rule as usize) {
-            self.slot_line(rule, slot, false);
-            self.slot_line(rule, slot, true);
-        }
     }
 
     fn slot_line(&mut self, rule: u64, slot: u64, after: bool) {

@@ -2,19 +2,26 @@
 //! stays as it was.
 #![tactic(auto)]
 
-ghost use Rattle.std.specs.Prelude.{◌≡◌, ◌+◌, ◌≤◌, cond, length};
+ghost use Rattle.std.specs.Prelude.{◌≡◌, ◌+◌, ◌*◌, ◌/◌, ◌%◌, ◌<◌, ◌≤◌, cond, eqb, length};
 ghost use Rattle.sizes.specs.Sizes as size;
 ghost use Rattle.limits.specs.Refusal.{told};
 ghost use Rattle.lattice.specs.Value.{value_of};
+ghost use Rattle.rules.specs.Read.{slots_at};
+ghost use Rattle.rows.specs.Row.{bound_of};
+ghost use Rattle.results.specs.Result.{bound_place};
 ghost use Rattle.text.specs.Text.{line as worded, spaced_words};
 ghost use Rattle.text.specs.Answers.{Puts};
+ghost use Rattle.numeric.specs.Reading.{given};
+ghost use Rattle.numeric.specs.Answers.{reads};
+ghost use Rattle.report.specs.Places.{lines_before, Stands};
+ghost use Rattle.report.specs.Report.{report_sized, report_of, completed_lines, stopped_lines, line_count, nth_line};
 ghost use Rattle.report.specs.Line.{told_words, done_text, argument_text, slot_text, statistics_text, status_line, argument_line, slot_line, statistics_line, refusal_line, on_buffer, written};
 
 use interval::Bound;
 use lattice::Abstract;
-use limits::{Refusal, Statistics};
+use limits::{Refusal, Statistics, Stop};
 use numeric::Ended;
-use store::Store;
+use store::{Phase, Store};
 
 // A head word, at the start of the line.
 fn put_word(line: &mut [u8], word: &[u8]) -> usize
@@ -180,4 +187,152 @@ pub fn refusal_line(line: &mut [u8], refusal: Refusal) -> Result<usize, Refusal>
         return Err(Refusal::Shape);
     }
     Ok(put_refused(line, b"refused", refusal))
+}
+
+// ---- the report, line by line
+
+// Where a line behind those of the arguments stands: the rule's number and which of the rule's lines it is, or how many lines lie between it
+// and the last rule's.
+#[derive(Clone, Copy, Debug, PartialEq, Eq)]
+enum Place {
+    OfRule(usize, u64),
+    Behind(u64),
+}
+
+fn is_report_sized(arguments: usize, rules: usize, slots: usize) -> bool
+    ensures { result ≡ report_sized arguments rules slots }
+{
+    arguments == sizes::ARGUMENT_CELLS && rules == sizes::RULE_CELLS && slots == sizes::BOUNDS_CELLS
+}
+
+// How many lines a rule has: two for each slot.
+fn lines_of(rules: &[u32], rule: usize) -> u64
+    ensures lines { result ≡ 2 * slots_at rules.now rule }
+    ensures few { result ≤ 2 * size.slots }
+{
+    2 * rules::slots_at(rules, rule)
+}
+
+// How many lines the first `count` rules have.
+fn lines_before(rules: &[u32], count: usize) -> u64
+    requires { count ≤ size.rules }
+    ensures lines { result ≡ lines_before rules.now count }
+    ensures few { result ≤ 2 * size.slots * count }
+{
+    let mut lines = 0;
+    for rule in 0..count {
+        lines += lines_of(rules, rule);
+    }
+    lines
+}
+
+// The n-th of those lines.
+fn place_of(rules: &[u32], count: usize, n: u64) -> Place
+    requires { count ≤ size.rules }
+    ensures { Stands rules.now count n result }
+{
+    let mut left = n;
+    for rule in 0..count {
+        let lines = lines_of(rules, rule);
+        if left < lines {
+            return Place::OfRule(rule, left);
+        }
+        left -= lines;
+    }
+    Place::Behind(left)
+}
+
+// The i-th line of a rule.
+fn put_pair(line: &mut [u8], slots: &[u32], rule: usize, i: u64) -> usize
+    requires { (size.line ≤ length line.old) × ((rule < size.rules) × (i < 2 * size.slots)) × (length slots.now ≡ size.bounds_cells) }
+    ensures { Puts (slot_text rule (i / 2) (eqb (i % 2) 1) (bound_of slots.now (bound_place rule (i / 2) (eqb (i % 2) 1)))) 0 line.old result line.new }
+{
+    let slot = i / 2;
+    let after = i % 2 == 1;
+    let bound = rows::read_bound(slots, results::bound_place(rule, slot as usize, after));
+    put_slot(line, rule as u64, slot, after, bound)
+}
+
+// A line of a completed run's report.
+fn completed_line(
+    store: &Store,
+    arguments: &[u32],
+    rules: &[u32],
+    slots: &[u32],
+    line: &mut [u8],
+    k: u64,
+) -> Result<usize, Refusal>
+    requires { (length line.old ≡ size.line) × (length slots.now ≡ size.bounds_cells) }
+    ensures { written result line.new ≡ on_buffer line.old (nth_line (given (completed_lines store.now arguments.now rules.now slots.now)) k) }
+{
+    let counts = store.counts;
+    let positions = counts.positions.min(sizes::POSITIONS) as u64;
+    if k == 0 {
+        return Ok(put_done(line, counts.positions as u64, counts.rules as u64));
+    }
+    if k <= positions {
+        let value = rows::abstract_at(arguments, (k - 1) as usize);
+        return Ok(put_argument(line, k - 1, value));
+    }
+    match place_of(rules, counts.rules.min(sizes::RULES), k - 1 - positions) {
+        Place::OfRule(rule, i) => Ok(put_pair(line, slots, rule, i)),
+        Place::Behind(0) => Ok(put_statistics(line, store.budget.statistics)),
+        Place::Behind(_) => Err(Refusal::Missing),
+    }
+}
+
+// A line of a stopped run's report.
+fn stopped_line(store: &Store, line: &mut [u8], stop: Stop, k: u64) -> Result<usize, Refusal>
+    requires { length line.old ≡ size.line }
+    ensures { written result line.new ≡ on_buffer line.old (nth_line (given (stopped_lines store.now stop)) k) }
+{
+    match k {
+        0 => Ok(put_refused(line, b"stop", Refusal::Limit(stop))),
+        1 => Ok(put_statistics(line, store.budget.statistics)),
+        _ => Err(Refusal::Missing),
+    }
+}
+
+// How many lines the report of an ended run has.
+pub fn line_count(
+    store: &Store,
+    arguments: &[u32],
+    rules: &[u32],
+    slots: &[u32],
+) -> Result<u64, Refusal>
+    ensures { reads (λ n. n) result ≡ line_count (report_of store.now arguments.now rules.now slots.now) }
+{
+    if !is_report_sized(arguments.len(), rules.len(), slots.len()) {
+        return Err(Refusal::Shape);
+    }
+    match store.phase {
+        Phase::Absent | Phase::Open => Err(Refusal::Closed),
+        Phase::Completed => {
+            let positions = store.counts.positions.min(sizes::POSITIONS) as u64;
+            Ok(positions + lines_before(rules, store.counts.rules.min(sizes::RULES)) + 2)
+        }
+        Phase::Stopped(_, _) => Ok(2),
+    }
+}
+
+// The k-th of them, from 0 on, into the buffer. A buffer or table of another size meets 1, as a store without an ended run does; a line that
+// the report does not have meets 5.
+pub fn report_line(
+    store: &Store,
+    arguments: &[u32],
+    rules: &[u32],
+    slots: &[u32],
+    line: &mut [u8],
+    k: u64,
+) -> Result<usize, Refusal>
+    ensures { written result line.new ≡ on_buffer line.old (nth_line (report_of store.now arguments.now rules.now slots.now) k) }
+{
+    if line.len() != sizes::LINE || !is_report_sized(arguments.len(), rules.len(), slots.len()) {
+        return Err(Refusal::Shape);
+    }
+    match store.phase {
+        Phase::Absent | Phase::Open => Err(Refusal::Closed),
+        Phase::Completed => completed_line(store, arguments, rules, slots, line, k),
+        Phase::Stopped(stop, _) => stopped_line(store, line, stop, k),
+    }
 }

@@ -1,3 +1,4 @@
 pub mod CodeLaws
 pub mod Ended
 pub mod Steady
+pub mod Widened

@@ -11,7 +11,7 @@ use Rattle.std.specs.Bool.{then_some}
 use Rattle.std.specs.Prelude.{None, Some}
 use lib.ListN.{length, get_or, drop, set, length-map, drop_of_length-le}
 use lib.Seq.{sets, drop-cons}
-use Rattle.integers.proofs.Stores.{get_or_min}
+use Rattle.integers.proofs.Stores.{sets_both, get_or_min}
 use Rattle.limits.specs.Context.{Context}
 use Rattle.rules.specs.declared.Binding.{Binding}
 use Rattle.rules.specs.declared.Binding.TheVariants.{Positive, Assign, Range, Aggregate}
@@ -33,11 +33,6 @@ four_put d at a b c e p₁ p₂ p₃ p = p ∙ rw (p₃, p₂, p₁) (simp towar
 
 pub record Putting {A : Type 0} (f : A → List ℕ) (width : ℕ) (r cells : List ℕ) (at : ℕ) (items : List A) (i : ℕ) : Type 0 where
   pub is : r ≡ sets cells (at + width * i) (map cell (flat f (drop i items)))
-
--- what is written in two parts
-sets_both : (l : List ℕ) (b : ℕ) (xs ys : List ℕ) → sets l b (xs ++ ys) ≡ sets (sets l b xs) (b + length xs) ys
-sets_both l b [] ys = ap (λ (n : ℕ). sets l n ys) (omega arith)
-sets_both l b (x ∷ xs) ys = sets_both (set l b x) (suc b) xs ys ∙ ap (λ (n : ℕ). sets (sets (set l b x) (suc b) xs) n ys) (omega arith)
 
 module _ {A : Type 0} (f : A → List ℕ) (width : ℕ) where
   pub put_none : (cells : List ℕ) (at : ℕ) (items : List A) → Putting f width (sets cells at (map cell (flat f items))) cells at items 0

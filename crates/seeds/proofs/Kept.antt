@@ -43,7 +43,8 @@ use Rattle.store.specs.Calls.{open?, billing}
 use Rattle.store.proofs.Frame.{Spent, spends_work, spends_links}
 use Rattle.provenance.specs.Provenance.{records, record_in, provenance, recordable}
 use Rattle.seeds.specs.Seed.{dropped, joined, rows, seed, constant_value, seed_constant, sized, spacious, Tables, tables, in_records, in_rows, seed_value_call}
-use Rattle.seeds.proofs.Seeded.{Regular, entries_in, lost, regular_constant, constant_seed, constant_is, regular_join, lost_step, old_part, seeded_put, live_put, lost_put}
+use Rattle.rows.proofs.Lost.{lost, lost_step}
+use Rattle.seeds.proofs.Seeded.{Regular, entries_in, regular_constant, constant_seed, constant_is, regular_join, old_part, seeded_put, live_put, lost_put}
 use Rattle.seeds.proofs.Beside.{Standing, Beside, beside_more, Quiet, quiet_more, wider, same_count, standing_quiet, Kin, Bill, same_bill, beside_budget, quiet_bill, spent_bill, charged_ends}
 
 -- ---- values made in a budget

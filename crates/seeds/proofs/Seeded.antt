@@ -16,6 +16,7 @@ use lib.ListN.{length, get_or}
 use Rattle.integers.specs.Order.{Le, Number}
 use Rattle.integers.specs.Lists.{All}
 use Rattle.integers.proofs.Tests.{by_cond}
+use Rattle.integers.proofs.Totals.{total, total_same, total_change, total_part}
 use Rattle.limits.specs.Meter.{retain}
 use Rattle.limits.proofs.Monad.{Ensures, by_pure, by_test, then}
 use Rattle.interval.specs.declared.Interval.TheVariants.{Bounded}
@@ -31,7 +32,7 @@ use Rattle.lattice.specs.Value.{Reason}
 use Rattle.std.specs.Prelude.{None, Some}
 use Rattle.lattice.specs.Value.{Value, value}
 use Rattle.lattice.specs.Constants.{constant_of, constant_at, Retained}
-use Rattle.lattice.specs.Lattice.{bottom, numeric, retained, constant, loses}
+use Rattle.lattice.specs.Lattice.{bottom, numeric, retained, constant}
 use Rattle.lattice.proofs.Joins.{joined_list, joined_value}
 use Rattle.sizes.specs.Sizes.{value_row}
 use Rattle.rows.specs.Row.{entries_of, value_at, put}
@@ -39,6 +40,7 @@ use Rattle.rows.specs.WellFormed.{Proper, Short, WellFormed}
 use Rattle.rows.proofs.RowLaws.{length_put, put_back, put_other}
 use Rattle.rows.proofs.Formed.{proper_hull}
 use Rattle.rows.proofs.Good.{all_union}
+use Rattle.rows.proofs.Lost.{lost, lost_in, lost_in_most}
 use Rattle.store.specs.Calls.{bottoms}
 
 -- ---- what a seed is
@@ -66,22 +68,9 @@ pub record Seeded (width k positions : ℕ) (constants seeds : List ℕ) : Type 
 
 -- ---- sums over the arguments
 
--- f 0 + .. + f (n - 1)
-unfoldable pub total : (ℕ → ℕ) → ℕ → ℕ
-total f zero = 0
-total f (suc n) = total f n + f n
-
--- 1 where there is no list
-abbrev pub lost : Option (List ℕ) → ℕ
-lost none = 1
-lost (some l) = 0
-
--- the live entries of the first n seeds, and how many of these have no list
+-- the live entries of the first n seeds
 abbrev pub entries_in : List ℕ → ℕ → ℕ
 entries_in seeds n = total (λ a. entries_of (value_at seeds a)) n
-
-abbrev pub lost_in : List ℕ → ℕ → ℕ
-lost_in seeds n = total (λ a. lost (value_at seeds a).values) n
 
 -- between calls no entries are live but those of the seeds
 abbrev pub Live : ℕ → ℕ → List ℕ → Type 0
@@ -90,43 +79,6 @@ Live entries positions seeds = entries ≡ entries_in seeds positions
 -- each argument that was counted as widened has no list any more
 abbrev pub Lost : ℕ → ℕ → List ℕ → Type 0
 Lost widened positions seeds = widened ≤ lost_in seeds positions
-
--- ---- laws of sums
-
-pub total_same : (f g : ℕ → ℕ) (n : ℕ) → ((i : ℕ) → i < n → g i ≡ f i) → total g n ≡ total f n
-unfolding total
-total_same f g zero h = refl
-total_same f g (suc n) h = let e = total_same f g n (λ i l. h i (omega arith)) in let d = h n (omega arith) in omega arith
-
--- one of the numbers is another
-pub total_change : (f g : ℕ → ℕ) (a n : ℕ) → a < n → ((i : ℕ) → (i ≡ a → ⊥) → g i ≡ f i) → total g n + f a ≡ total f n + g a
-unfolding total
-total_change f g a zero l h = absurd (omega arith)
-total_change f g a (suc n) l h = elim (dec_lt a n) [
-  | yes m ↦
-      let s = total_change f g a n m h in
-      let d = h n (λ d. omega arith) in
-      omega arith
-  | no m ↦
-      let e : a ≡ n = omega arith in
-      let s = total_same f g n (λ i k. h i (λ d. omega arith)) in
-      let p : f a ≡ f n = ap f e in
-      let q : g a ≡ g n = ap g e in
-      omega arith
-]
-
-pub total_part : (f : ℕ → ℕ) (a n : ℕ) → a < n → f a ≤ total f n
-unfolding total
-total_part f a zero l = absurd (omega arith)
-total_part f a (suc n) l = elim (dec_lt a n) [
-  | yes m ↦ omega (arith, total_part f a n m)
-  | no m ↦ let e : a ≡ n = omega arith in let p : f a ≡ f n = ap f e in omega arith
-]
-
-pub total_most : (f : ℕ → ℕ) (n : ℕ) → ((i : ℕ) → f i ≤ 1) → total f n ≤ n
-unfolding total
-total_most f zero h = omega arith
-total_most f (suc n) h = omega (arith, total_most f n h, h n)
 
 -- ---- no positions, no entries and nothing widened
 
@@ -142,12 +94,8 @@ lost_none seeds = omega arith
 
 -- ---- no more are widened than there are arguments
 
-lost_most : (x : Option (List ℕ)) → lost x ≤ 1
-lost_most none = omega arith
-lost_most (some l) = omega arith
-
 pub lost_bound : (widened positions : ℕ) (seeds : List ℕ) → Lost widened positions seeds → widened ≤ positions
-lost_bound widened positions seeds h = omega (arith, total_most (λ a. lost (value_at seeds a).values) positions (λ a. lost_most (value_at seeds a).values))
+lost_bound widened positions seeds h = omega (arith, lost_in_most seeds positions)
 
 -- ---- retained, as the lattice reads a constant
 
@@ -265,13 +213,6 @@ module _ (width k : ℕ) (constants : List ℕ) where
   regular_join u v p q =
       list_regular _ _ u.values v.values (proper_hull u.bound.interval v.bound.interval p.formed.interval q.formed.interval)
       p.formed.list q.formed.list p.sorted q.sorted p.known q.known
-
--- a list that is lost is one lost list more; none comes back
-pub lost_step : (width : ℕ) (x y : Option (List ℕ)) → lost x + cond (loses x (joined_list width x y)) 1 0 ≡ lost (joined_list width x y)
-lost_step width none y = refl
-lost_step width (some x) none = refl
-lost_step width (some x) (some y) =
-    by_cond (λ o. lost (some x) + cond (loses (some x) o) 1 0 ≡ lost o) (leb (length (union x y)) (room width)) (λ _. refl) (λ _. refl)
 
 -- ---- one seed is another
 

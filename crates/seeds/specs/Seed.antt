@@ -46,7 +46,7 @@ seed a v t = (paying (joined (value_at t.seeds a) v) >>= (λ new u. going tt (ro
 -- ---- refusals 1 and 2, of both calls
 
 abbrev pub sized : ℕ → ℕ → Bool
-sized seeds records = eqb seeds size.argument_cells && eqb records size.record_cells
+sized seeds pairs = eqb seeds size.argument_cells && eqb pairs size.record_cells
 
 -- more rows than the tables have meet 2 as well
 abbrev pub spacious : Store → Bool

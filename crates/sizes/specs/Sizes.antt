@@ -154,6 +154,29 @@ slot_row = 2 * bound_row
 abbrev pub bounds_row : ℕ
 bounds_row = slot_row * slots
 
+-- ---- the words of the header: nine limits, eight counts, how many rows of eight tables stand, the context, the phase, a stop and its context
+
+abbrev pub header_counted : ℕ
+header_counted = 9
+
+abbrev pub header_rows : ℕ
+header_rows = 17
+
+abbrev pub header_context : ℕ
+header_context = 25
+
+abbrev pub header_phase : ℕ
+header_phase = 27
+
+abbrev pub header_stop : ℕ
+header_stop = 28
+
+abbrev pub header_stop_context : ℕ
+header_stop_context = 32
+
+abbrev pub header : ℕ
+header = 34
+
 -- ---- the cells of the tables
 
 -- the bytes of a line of the report: every line fits

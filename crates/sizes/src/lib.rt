@@ -111,6 +111,22 @@ pub const SLOT_ROW: usize = 2 * BOUND_ROW;
 
 pub const BOUNDS_ROW: usize = SLOT_ROW * SLOTS;
 
+// The words of the header: nine limits, eight counts, how many rows of eight tables stand, the context, the phase, a stop and its context.
+
+pub const HEADER_COUNTED: usize = 9;
+
+pub const HEADER_ROWS: usize = 17;
+
+pub const HEADER_CONTEXT: usize = 25;
+
+pub const HEADER_PHASE: usize = 27;
+
+pub const HEADER_STOP: usize = 28;
+
+pub const HEADER_STOP_CONTEXT: usize = 32;
+
+pub const HEADER: usize = 34;
+
 // The cells of the tables.
 
 // The bytes of a line of the report: every line fits.

@@ -91,7 +91,7 @@ tops k (suc n) = after_unit (putting k (top None)) >> tops (k + 1) n
 -- "Positive occurrences constrain complete bindings, regardless of join order."
 abbrev pub meet_argument : List ℕ → List ℕ → Binding → Metered Stop Slots (Unit {0})
 meet_argument constants arguments (Positive slot argument) = meet_into constants slot (value_at arguments argument)
-meet_argument constants arguments (Assign slot value) = pure tt
+meet_argument constants arguments (Assign slot e) = pure tt
 meet_argument constants arguments (Range slot low high) = pure tt
 meet_argument constants arguments (Aggregate slot function) = pure tt
 
@@ -105,7 +105,7 @@ depending slot s = going tt (slots s.meter (marked s.rows slot (value_at s.rows 
 
 abbrev pub mark_dependent : Binding → Metered Stop Slots (Unit {0})
 mark_dependent (Positive slot argument) = depending slot
-mark_dependent (Assign slot value) = pure tt
+mark_dependent (Assign slot e) = pure tt
 mark_dependent (Range slot low high) = pure tt
 mark_dependent (Aggregate slot function) = pure tt
 

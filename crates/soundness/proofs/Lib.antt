@@ -17,7 +17,9 @@ pub mod TiedKeys
 pub mod TiedRows
 pub mod ClosedCalls
 pub mod Phases
+pub mod AnySize
 pub mod Theorem
+pub mod Example
 pub mod HaltingRules
 pub mod Halting
 pub mod Coded

@@ -1,8 +1,7 @@
 -- No call that builds a store changes its phase.
 use Rattle.sizes.specs.Sizes as size
 use mathlib.Core.Path.{◌≡◌, refl, ap}
-use mathlib.Core.Bool.{◌&&◌}
-use lib.Dec.{eqb, ltb}
+use lib.Dec.{eqb, leb, ltb}
 use lib.ListN.{length}
 use Rattle.limits.proofs.Ends.{Ends, completes, stops, ends_as, ends_test, ends_pure}
 use Rattle.store.specs.declared.Store.{Store}
@@ -41,7 +40,9 @@ module _ (t : Tables) (r : Reached t) where
       (λ _.
       ends_test (open? t.header)
       (λ _.
-      ends_test (ltb p 64 && ltb p t.header.counts.predicates) (λ _. ends_test (ltb i (arity_of t.predicates p)) (λ _. ends_pure _ t.header refl) (λ _. stops tt)) (λ _. stops tt)) (λ _. stops tt)) (λ _. stops tt)) (λ _ _ q. q) (λ _ _ _. tt)
+      ends_test (leb t.header.counts.predicates 64)
+      (λ _.
+      ends_test (ltb p t.header.counts.predicates) (λ _. ends_test (ltb i (arity_of t.predicates p)) (λ _. ends_pure _ t.header refl) (λ _. stops tt)) (λ _. stops tt)) (λ _. stops tt)) (λ _. stops tt)) (λ _. stops tt)) (λ _ _ q. q) (λ _ _ _. tt)
   call_phase (constant k) h = on_ends_lem for_constant from_constant id (constant_call k) t (kept.constant_keeps k (typed_key k h) (for_constant t) r.keyed r.rises) (λ _ u p. p.header.phase) (λ _ _ _. tt)
   call_phase (expression e) h = on_ends_lem for_expression from_expression id (expression_call e) t (expression_ends e (for_expression t) r.nested) (λ _ u p. ap (λ (x : Store). x.phase) p.is) (λ _ _ _. tt)
   call_phase (seed_value a k) h =

@@ -23,8 +23,8 @@ use Rattle.thresholds.specs.Thresholds.{entry}
 use Rattle.limits.specs.Context.{Context}
 use Rattle.store.specs.declared.Phase.TheVariants.{Completed, Stopped}
 use Rattle.slots.specs.Slots.{blank, total}
+use Rattle.integers.proofs.Totals as totals
 use Rattle.seeds.proofs.Seeded.{entries_in}
-use Rattle.seeds.proofs.Seeded as seeds
 use Rattle.slots.proofs.Moved.{moved_row, moved_total}
 use Rattle.slots.proofs.Copied.{Same}
 use Rattle.rounds.proofs.Live.{Room, blank_formed}
@@ -42,7 +42,7 @@ use Rattle.soundness.proofs.Settled.{run, Closed, Round, round_ends, pass_sound,
 -- ---- two sums over rows that are one
 
 same_total : (rows : List ℕ) (n : ℕ) → entries_in rows n ≡ total rows n
-unfolding total seeds.total
+unfolding total totals.total
 same_total rows zero = refl
 same_total rows (suc n) = ap (λ (k : ℕ). k + entries_of (value_at rows n)) (same_total rows n)
 

@@ -33,11 +33,11 @@ use Rattle.input.specs.Input as input
 use Rattle.input.proofs.Played.{call_keeps}
 use Rattle.input.proofs.Reached.{fresh_open, fresh_reached}
 use Rattle.numeric.specs.Reading.{Reading, given, in_phase, there, argument_reading, context_count_reading, context_reading, slot_reading, key_reading, name_reading, status_reading}
-use Rattle.numeric.specs.Reading as reading
-use Rattle.numeric.specs.Step.{Call, store, run, argument, context_count, context, slot, key, status, Answer, value, State, state, for_run, from_run, on_store, on_run, on_reading, step, Event, event, play, header_of, fresh}
-use Rattle.numeric.specs.Step as calls
+use Rattle.numeric.specs.Reading as readings
+use Rattle.numeric.specs.Question.{argument, Shown, value, showing}
+use Rattle.numeric.specs.Step.{Call, store, run, reading, shows, State, state, for_run, from_run, on_store, on_run, ask, on_reading, step, Event, event, play, header_of, fresh}
 use Rattle.soundness.specs.Plain.{Opaque}
-use Rattle.soundness.specs.Run.{Accepted, accepted, key_for, said, learned, heard_from, Firing, Reaches}
+use Rattle.soundness.specs.Run.{Accepted, accepted, key_for, said, learned, heard, heard_from, Firing, Reaches}
 use Rattle.soundness.specs.Claim.{LiesInBound, LiesInList, LiesIn, Typed, Lent, Demand3}
 use Rattle.lattice.proofs.Members.{InBound, Listed}
 use Rattle.soundness.proofs.Lies.{number_of, Lies, Kept}
@@ -45,6 +45,8 @@ use Rattle.soundness.proofs.Grounded.{Inside, Grounded}
 use Rattle.soundness.proofs.Ran.{Ran, ended, halted, ran_sound}
 use Rattle.soundness.proofs.Ties.{Tied}
 use Rattle.soundness.proofs.ClosedCalls.{closed_idle}
+use Rattle.soundness.proofs.AnySize.{Echoes, echoes, mend, mend_sized, mend_lent, mend_beside}
+use Rattle.input.proofs.Reached.{Sized}
 use Rattle.soundness.proofs.Phases.{call_phase}
 use Rattle.soundness.proofs.Worth.{none_some}
 use Rattle.soundness.proofs.TiedKeys.{grounded, constant_ties, expression_ties}
@@ -73,12 +75,12 @@ pub data Stands (p : Accepted) (s : State) : Type 0 where
 
 -- ---- a reading
 
-reads : (s : State) (a : ℕ) (v : Value) → (step (argument a) s).answer ≡ value v → (s.tables.header.phase ≡ Completed) × (v ≡ value_at s.arguments a)
+reads : (s : State) (a : ℕ) (v : Value) → (step (reading (argument a)) s).answer ≡ shows (value v) → (s.tables.header.phase ≡ Completed) × (v ≡ value_at s.arguments a)
 unfolding step argument_reading
 reads s a v = go (eqb (length s.arguments) size.argument_cells) s.tables.header.phase refl (ltb a s.tables.header.counts.positions)
   where
     go : (b : Bool) (ph : Phase) → s.tables.header.phase ≡ ph → (c : Bool) →
-        (on_reading value s (cond b (in_phase ph (there c (value_at s.arguments a))) (reading.refused (told Shape)))).answer ≡ value v → (s.tables.header.phase ≡ Completed) × (v ≡ value_at s.arguments a)
+        (on_reading s (showing value (cond b (in_phase ph (there c (value_at s.arguments a))) (readings.refused (told Shape))))).answer ≡ shows (value v) → (s.tables.header.phase ≡ Completed) × (v ≡ value_at s.arguments a)
     go false ph q c e = let z : ◌≡◌ {A = ℕ} 0 1 = cc in absurd (omega arith)
     go true Absent q c e = let z : ◌≡◌ {A = ℕ} 0 1 = cc in absurd (omega arith)
     go true Open q c e = let z : ◌≡◌ {A = ℕ} 0 1 = cc in absurd (omega arith)
@@ -88,9 +90,9 @@ reads s a v = go (eqb (length s.arguments) size.argument_cells) s.tables.header.
 
 -- ---- a store that is not open: nothing is said and nothing changes
 
-reading_after : {A : Type 0} (f : A → Answer) (s : State) (r : Reading A) → (on_reading f s r).after ≡ s
-reading_after f s (given a) = refl
-reading_after f s (reading.refused e) = refl
+reading_after : (s : State) (r : Reading Shown) → (on_reading s r).after ≡ s
+reading_after s (given a) = refl
+reading_after s (readings.refused e) = refl
 
 -- whether all tables that a run is lent have 01's sizes
 abbrev run_sized : State → Working → Bool
@@ -130,13 +132,7 @@ module _ (p : Accepted) (s : State) (shut : admits s.tables.header.phase ≡ fal
   unfolding step
   closed_step (store c) = store_idle c
   closed_step (run w) = run_idle w
-  closed_step (argument a) = record { after = reading_after value s (argument_reading s.tables.header s.arguments a); said = refl }
-  closed_step (context_count a) = record { after = reading_after calls.number s (context_count_reading s.tables.header s.tables.records a); said = refl }
-  closed_step (context a k) = record { after = reading_after calls.number s (context_reading s.tables.header s.tables.records a k); said = refl }
-  closed_step (slot r k b) = record { after = reading_after calls.bound s (slot_reading s.tables.header s.tables.rules s.slots r k b); said = refl }
-  closed_step (key k) = record { after = reading_after calls.kind s (key_reading s.tables.header s.tables.constants k); said = refl }
-  closed_step (calls.name k) = record { after = reading_after calls.bytes s (name_reading s.tables.header s.tables.names s.tables.constants k); said = refl }
-  closed_step status = record { after = reading_after calls.ended s (status_reading s.tables.header); said = refl }
+  closed_step (reading q) = record { after = reading_after s (ask q s); said = refl }
 
   closed_heard : (cs : List Call) → heard_from p (play s cs) ≡ p
   unfolding play heard_from
@@ -201,22 +197,16 @@ module _ (ties : (c : input.Call) → input.Typed c → (p : Accepted) (t : inpu
       go : (c : Call) → Typed c → Stands (learned p c (step c s).answer) (step c s).after
       go (store c) h = store_stands p s o t c h
       go (run w) h = run_stands p s o t w
-      go (argument a) h = subst (Stands p) (sym (reading_after value s (argument_reading s.tables.header s.arguments a))) (building o t)
-      go (context_count a) h = subst (Stands p) (sym (reading_after calls.number s (context_count_reading s.tables.header s.tables.records a))) (building o t)
-      go (context a k) h = subst (Stands p) (sym (reading_after calls.number s (context_reading s.tables.header s.tables.records a k))) (building o t)
-      go (slot r k b) h = subst (Stands p) (sym (reading_after calls.bound s (slot_reading s.tables.header s.tables.rules s.slots r k b))) (building o t)
-      go (key k) h = subst (Stands p) (sym (reading_after calls.kind s (key_reading s.tables.header s.tables.constants k))) (building o t)
-      go (calls.name k) h = subst (Stands p) (sym (reading_after calls.bytes s (name_reading s.tables.header s.tables.names s.tables.constants k))) (building o t)
-      go status h = subst (Stands p) (sym (reading_after calls.ended s (status_reading s.tables.header))) (building o t)
+      go (reading q) h = subst (Stands p) (sym (reading_after s (ask q s))) (building o t)
 
   -- ---- a list of calls
 
   pub sound_from : (o : Opaque) (fs : List Firing) (a : ℕ) (k : Key) (v : Value) (cs : List Call) → All Typed cs → (p : Accepted) (s : State) → Stands p s →
-      Reaches o (heard_from p (play s cs)) fs a k → Memᴰ (event (argument a) (value v)) (play s cs) → LiesIn (heard_from p (play s cs)) k v
+      Reaches o (heard_from p (play s cs)) fs a k → Memᴰ (event (reading (argument a)) (shows (value v))) (play s cs) → LiesIn (heard_from p (play s cs)) k v
   unfolding play heard_from
   sound_from o fs a k v [] h p s st x x5 = elim x5 [ ]
   sound_from o fs a k v (c ∷ cs) h p s st x (Memᴰ.tail m) = sound_from o fs a k v cs h.1 (learned p c (step c s).answer) (step c s).after (step_stands c h.0 p s st) x m
-  sound_from o fs a k v (c ∷ cs) h p s st x (Memᴰ.head e) = read_here (reads s a v (subst (λ (d : Call). (step d s).answer ≡ value v) (ap (λ (z : Event). z.call) (sym e)) (ap (λ (z : Event). z.answer) (sym e)))) st
+  sound_from o fs a k v (c ∷ cs) h p s st x (Memᴰ.head e) = read_here (reads s a v (subst (λ (d : Call). (step d s).answer ≡ shows (value v)) (ap (λ (z : Event). z.call) (sym e)) (ap (λ (z : Event). z.answer) (sym e)))) st
     where
       -- the reading stands in a completed store, of which nothing more is said
       read_here : (s.tables.header.phase ≡ Completed) × (v ≡ value_at s.arguments a) → Stands p s → LiesIn (heard_from p (play s (c ∷ cs))) k v
@@ -241,11 +231,9 @@ call_ties (input.seed_interval a low high) h p t k = seed_interval_ties a low hi
 call_ties (input.rule x) h p t k = rule_ties x h p t k
 
 -- before any call nothing has been said
-fresh_tied : (l : Limits) (t : input.Tables) → fresh_of l ≡ going tt t.header → t.header.counts.constants ≡ 0 → t.header.counts.expressions ≡ 0 → Lent t → Tied (accepted [] [] [] []) t
-fresh_tied l t e c x z = record {
-  reached =
-      fresh_reached l t e
-      record { predicates = z.predicates; names = z.names; constants = z.constants; order = z.order; thresholds = z.thresholds; nodes = z.nodes; seeds = z.seeds; records = z.records; rules = z.rules };
+fresh_tied : (l : Limits) (t : input.Tables) → fresh_of l ≡ going tt t.header → t.header.counts.constants ≡ 0 → t.header.counts.expressions ≡ 0 → Sized t → Lent t → Tied (accepted [] [] [] []) t
+fresh_tied l t e c x sizes z = record {
+  reached = fresh_reached l t e sizes;
   numbers = z.numbers;
   keys = record {
     has = λ i b. absurd (omega arith);
@@ -260,34 +248,41 @@ fresh_tied l t e c x z = record {
   seeds = record { at = λ a k q. absurd (Memᴰ.not-nil q.among) };
 }
 
-fresh_stands : (l : Limits) (s : State) → Lent s.tables → Stands (accepted [] [] [] []) (fresh l s)
-fresh_stands l s z = go (leb l.width 16) refl
+fresh_stands : (l : Limits) (s : State) → Sized s.tables → Lent s.tables → Stands (accepted [] [] [] []) (fresh l s)
+fresh_stands l s sizes z = go (leb l.width 16) refl
   where
-    lent : (h : Store) → Lent (input.with_header h s.tables)
-    lent h = record {
-      predicates = z.predicates;
-      names = z.names;
-      constants = z.constants;
-      order = z.order;
-      thresholds = z.thresholds;
-      nodes = z.nodes;
-      seeds = z.seeds;
-      records = z.records;
-      rules = z.rules;
-      cells = z.cells;
-      numbers = z.numbers;
+    sized_as : (h : Store) → Sized (input.with_header h s.tables)
+    sized_as h = record {
+      predicates = sizes.predicates;
+      names = sizes.names;
+      constants = sizes.constants;
+      order = sizes.order;
+      thresholds = sizes.thresholds;
+      nodes = sizes.nodes;
+      seeds = sizes.seeds;
+      records = sizes.records;
+      rules = sizes.rules;
     }
 
     go : (b : Bool) → leb l.width 16 ≡ b → Stands (accepted [] [] [] []) (state (input.with_header (header_of (cond b (going (tt {0}) (empty l Open)) (stopped (told Shape) (empty l Absent)))) s.tables) s.arguments s.slots)
-    go true e = building refl (fresh_tied l (input.with_header (empty l Open) s.tables) (fresh_open l (leb-true l.width 16 e)) refl refl (lent (empty l Open)))
+    go true e =
+        building refl (fresh_tied l (input.with_header (empty l Open) s.tables) (fresh_open l (leb-true l.width 16 e)) refl refl (sized_as (empty l Open)) record { cells = z.cells; numbers = z.numbers })
     go false e = without refl (λ h. let y : ◌≡◌ {A = ℕ} 0 1 = cc in omega arith)
+
+-- what another store, whose tables have their sizes, hears and shows of some calls from its beginning
+pub echoes_sound : (o : Opaque) (l : Limits) (s : State) → Lent s.tables → (es : List Event) → Echoes (accepted [] [] [] []) es (fresh l (mend s)) → (fs : List Firing) (a : ℕ) (k : Key) → Reaches o (heard es) fs a k →
+    (v : Value) → Memᴰ (event (reading (argument a)) (shows (value v))) es → LiesIn (heard es) k v
+echoes_sound o l s z es r fs a k x v m =
+    subst (λ (p : Accepted). LiesIn p k v) (sym r.heard)
+    (sound_from call_ties (λ p t. grounded) o fs a k v r.calls r.typed (accepted [] [] [] []) (fresh l (mend s)) (fresh_stands l (mend s) (mend_sized s) (mend_lent s z))
+    (subst (λ (p : Accepted). Reaches o p fs a k) r.heard x) (r.shown (argument a) (value v) m))
 
 -- demand 3
 pub sound : Demand3
-sound o l s z cs h fs a k x v m = sound_from call_ties (λ p t. grounded) o fs a k v cs h (accepted [] [] [] []) (fresh l s) (fresh_stands l s z) x m
+sound o l s z cs h fs a k x v m = echoes_sound o l s z (play (fresh l s) cs) (echoes cs h (accepted [] [] [] []) (fresh l s) (fresh l (mend s)) (mend_beside s l)) fs a k x v m
 
 -- ---- and it is never empty talk: after a completed run a reading of an argument that exists is not refused
 
-pub read_completed : (s : State) (a : ℕ) → s.tables.header.phase ≡ Completed → length s.arguments ≡ size.argument_cells → a < s.tables.header.counts.positions → (step (argument a) s).answer ≡ value (value_at s.arguments a)
+pub read_completed : (s : State) (a : ℕ) → s.tables.header.phase ≡ Completed → length s.arguments ≡ size.argument_cells → a < s.tables.header.counts.positions → (step (reading (argument a)) s).answer ≡ shows (value (value_at s.arguments a))
 unfolding step argument_reading
 read_completed s a p q l = rw (eq-eqb (length s.arguments) size.argument_cells q, p, lt-ltb a s.tables.header.counts.positions l) refl

@@ -9,7 +9,7 @@ use mathlib.Core.Bool.{Bool, true, false, cond}
 use mathlib.Core.List.{List, [], ◌∷◌, ◌++◌, map}
 use mathlib.Core.Option.{Option, some, none}
 use borrow.Author.Tests.{eq-eqb, ne_eqb, leb-true}
-use lib.Dec.{leb, ltb, eqb}
+use lib.Dec.{leb, eqb}
 use lib.IntN.{ℤ}
 use lib.ListN.{length}
 use Rattle.integers.specs.Order.{Number}
@@ -464,7 +464,7 @@ expression_answers_lem e t =
     (λ _.
     ends_test (leb (nesting t.nodes t.header.counts.expressions e) 64)
     (λ _.
-    ends_test (ltb t.header.counts.expressions 1024)
+    ends_test (expressions.spacious t.header.counts)
     (λ _.
     on_then _ _ _ _ _ (unless (λ (u : expressions.Tables). valid u.header.counts e) Missing (share e)) t (charged_counts _ t.header)
     (λ _ s c. ends_test (valid s.counts e) (λ _. share_answers t.header.counts.expressions e _ c) (λ _. stops tt)) (λ _ _ _. tt))

@@ -137,8 +137,11 @@ argument_ties q i p t h =
     (λ _.
     ends_test (open? t.header)
     (λ _.
-    ends_test (ltb q 64 && ltb q t.header.counts.predicates)
+    ends_test (leb t.header.counts.predicates 64)
+    (λ _.
+    ends_test (ltb q t.header.counts.predicates)
     (λ _. ends_test (ltb i (arity_of t.predicates q)) (λ _. ends_pure (first_argument t.predicates q + i) t.header refl) (λ _. stops tt))
+    (λ _. stops tt))
     (λ _. stops tt))
     (λ _. stops tt))
     (λ _. stops tt))

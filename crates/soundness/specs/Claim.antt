@@ -1,7 +1,6 @@
 -- Demand 3 as one statement over whole lists of calls. 01: "A number lies in a bound whose interval has it (Unbounded has all), a name in a Mixed
 -- one; a value lies in a list that has the id of a constant with that key."
-use Rattle.std.specs.Prelude.{ℕ, ◌<◌, ◌^◌, ◌≡◌, length}
-use Rattle.sizes.specs.Sizes as size
+use Rattle.std.specs.Prelude.{ℕ, ◌<◌, ◌^◌, ◌≡◌}
 use mathlib.Core.List.{List, Memᴰ}
 use Rattle.std.proofs.Math.Option.{Option, some, none}
 use Rattle.integers.specs.Order.{Number}
@@ -13,8 +12,8 @@ use Rattle.lattice.specs.Value.{Value}
 use Rattle.keys.specs.Key.{Key, name}
 use Rattle.keys.specs.Key as keys
 use Rattle.input.specs.Input as input
-use Rattle.numeric.specs.Step.{Call, store, run, context_count, slot, status, value, State, event, play, fresh}
-use Rattle.numeric.specs.Step as calls
+use Rattle.numeric.specs.Question.{argument, value}
+use Rattle.numeric.specs.Step.{Call, store, run, reading, shows, State, event, play, fresh}
 use Rattle.soundness.specs.Plain.{Opaque}
 use Rattle.soundness.specs.Run.{Accepted, key_for, heard, Firing, Reaches}
 
@@ -33,38 +32,23 @@ pub record LiesIn (p : Accepted) (k : Key) (v : Value) : Type 0 where
   pub bound : LiesInBound k v.bound
   pub list : LiesInList p k v.values
 
--- ---- what types say: of a call's arguments, and of the lent tables, which have their sizes and may hold anything
+-- ---- what types say: of a call's arguments, and of the lent tables, which may hold anything and have any size
 
 abbrev pub Typed : Call → Type 0
 Typed (store c) = input.Typed c
 Typed (run w) = Unit {0}
-Typed (calls.argument a) = Unit {0}
-Typed (context_count a) = Unit {0}
-Typed (calls.context a k) = Unit {0}
-Typed (slot r k after) = Unit {0}
-Typed (calls.key k) = Unit {0}
-Typed (calls.name k) = Unit {0}
-Typed status = Unit {0}
+Typed (reading q) = Unit {0}
 
 pub record Lent (t : input.Tables) : Type 0 where
-  pub predicates : length t.predicates ≡ size.predicate_cells
-  pub names : length t.names ≡ size.name_cells
-  pub constants : length t.constants ≡ size.constant_cells
-  pub order : length t.order ≡ size.constants
-  pub thresholds : length t.thresholds ≡ size.thresholds
-  pub nodes : length t.nodes ≡ size.node_cells
-  pub seeds : length t.seeds ≡ size.argument_cells
-  pub records : length t.records ≡ size.record_cells
-  pub rules : length t.rules ≡ size.rule_cells
   -- 32-bit cells, unsigned and signed
   pub cells : All (λ c. c < 2 ^ 32) t.constants
   pub numbers : All Number t.thresholds
 
 -- ---- the claim
 
--- whatever the opaque functions are, and the limits, and what stood in the tables, the calls and the firings: a value that the plain run over the
+-- whatever the opaque functions are, and the limits, and what stood in the tables, of whatever sizes they are, the calls and the firings: a value that the plain run over the
 -- accepted calls puts into an argument lies in what each reading of that argument gives
 abbrev pub Demand3 : Type 0
 Demand3 =
     (o : Opaque) (l : Limits) (s : State) → Lent s.tables → (cs : List Call) → All Typed cs → (fs : List Firing) (a : ℕ) (k : Key) → Reaches o (heard (play (fresh l s) cs)) fs a k →
-    (v : Value) → Memᴰ (event (calls.argument a) (value v)) (play (fresh l s) cs) → LiesIn (heard (play (fresh l s) cs)) k v
+    (v : Value) → Memᴰ (event (reading (argument a)) (shows (value v))) (play (fresh l s) cs) → LiesIn (heard (play (fresh l s) cs)) k v

@@ -1,7 +1,7 @@
 -- Demand 3 for the code. A raw state is the header that was handed back last, and what stands in the lent slices. Each case below is the `ensures`
 -- of one entry point, word for word: the header and a slice of the state stand for `x.old` or `x.now`, and a variable for `x.new`. What an entry
 -- point is not lent as `&mut` stays as it was.
-use Rattle.std.specs.Prelude.{ℕ, ◌≡◌, Bool, ℤ, Result, Ok, Err}
+use Rattle.std.specs.Prelude.{ℕ, ◌≡◌, Bool, false, ℤ, Result, Ok, Err}
 use Rattle.std.specs.Borrow.{Bor}
 use mathlib.Core.List.{List, [], ◌∷◌, Memᴰ}
 use Rattle.integers.specs.Lists.{All}
@@ -34,11 +34,15 @@ use Rattle.input.specs.Input.{Tables, with_header, from_predicate, from_constant
 use Rattle.input.specs.Input as input
 use Rattle.numeric.specs.declared.Ended.{Ended}
 use Rattle.numeric.specs.Reading.{argument_reading, context_count_reading, context_reading, slot_reading, key_reading, name_reading, status_reading}
-use Rattle.numeric.specs.Answers.{reads, kind, status}
+use Rattle.numeric.specs.Answers.{reads, kind}
+use Rattle.numeric.specs.Answers as answers
+use Rattle.numeric.specs.Question.{Question, Shown}
+use Rattle.numeric.specs.Question as asks
 use Rattle.numeric.specs.Step.{Call, State, state, from_run, Event, event}
 use Rattle.numeric.specs.Step as calls
 use Rattle.soundness.specs.Plain.{Opaque}
 use Rattle.soundness.specs.Run.{heard, Firing, Reaches}
+use Rattle.soundness.specs.Fits.{fits}
 use Rattle.soundness.specs.Claim.{LiesIn, Typed, Lent}
 
 -- ---- what an answer of the code tells
@@ -52,6 +56,22 @@ done_tells r = tells (λ _. calls.reply input.done) r
 
 abbrev pub id_tells : Result ℕ Refusal → calls.Answer
 id_tells r = tells (λ i. calls.reply (input.id i)) r
+
+-- ---- one reading of the code: what is asked, and what it answers; it leaves everything as it was
+
+abbrev pub shown_tells : {A B : Type 0} → (B → Shown) → (A → B) → Result A Refusal → calls.Answer
+shown_tells f g r = tells (λ a. calls.shows (f (g a))) r
+
+pub data Reads (s : State) : Question → calls.Answer → Type 0 where
+  argument : (a : ℕ) (r : Result Abstract Refusal) → reads value_of r ≡ argument_reading s.tables.header s.arguments a → Reads s (asks.argument a) (shown_tells asks.value value_of r)
+  context_count : (a : ℕ) (r : Result ℕ Refusal) → reads (λ n. n) r ≡ context_count_reading s.tables.header s.tables.records a → Reads s (asks.context_count a) (shown_tells asks.number (λ n. n) r)
+  context : (a k : ℕ) (r : Result ℕ Refusal) → reads (λ n. n) r ≡ context_reading s.tables.header s.tables.records a k → Reads s (asks.context a k) (shown_tells asks.number (λ n. n) r)
+  slot : (q k : ℕ) (after : Bool) (r : Result Bound Refusal) → reads (λ b. b) r ≡ slot_reading s.tables.header s.tables.rules s.slots q k after →
+      Reads s (asks.slot q k after) (shown_tells asks.bound (λ b. b) r)
+  key : (k : ℕ) (r : Result Constant Refusal) → reads kind r ≡ key_reading s.tables.header s.tables.constants k → Reads s (asks.key k) (shown_tells asks.kind kind r)
+  name : (k : ℕ) (r : Result (Bor (List ℕ)) Refusal) → reads (λ p. p.now) r ≡ name_reading s.tables.header s.tables.names s.tables.constants k →
+      Reads s (asks.name k) (shown_tells asks.bytes (λ p. p.now) r)
+  status : (r : Result Ended Refusal) → reads answers.status r ≡ status_reading s.tables.header → Reads s asks.status (shown_tells asks.ended answers.status r)
 
 -- ---- one call of the code: what it is, what it answers, what it leaves
 
@@ -88,26 +108,20 @@ pub data Exchange (s : State) : Call → calls.Answer → State → Type 0 where
       ≡ run_call (read s.tables.nodes s.tables.constants s.tables.rules s.tables.seeds) w (engine.tables s.tables.header s.tables.thresholds s.arguments s.slots) →
       (current', growth') ≡ run_leaves (read s.tables.nodes s.tables.constants s.tables.rules s.tables.seeds) w (engine.tables s.tables.header s.tables.thresholds s.arguments s.slots) →
       Exchange s (calls.run w) (tells (λ _. calls.ran) r) (from_run (engine.tables header' thresholds' arguments' slots') s)
-  argument_read : (a : ℕ) (r : Result Abstract Refusal) → reads value_of r ≡ argument_reading s.tables.header s.arguments a →
-      Exchange s (calls.argument a) (tells (λ v. calls.value (value_of v)) r) s
-  context_count_read : (a : ℕ) (r : Result ℕ Refusal) → reads (λ n. n) r ≡ context_count_reading s.tables.header s.tables.records a → Exchange s (calls.context_count a) (tells calls.number r) s
-  context_read : (a k : ℕ) (r : Result ℕ Refusal) → reads (λ n. n) r ≡ context_reading s.tables.header s.tables.records a k → Exchange s (calls.context a k) (tells calls.number r) s
-  slot_read : (q k : ℕ) (after : Bool) (r : Result Bound Refusal) → reads (λ b. b) r ≡ slot_reading s.tables.header s.tables.rules s.slots q k after →
-      Exchange s (calls.slot q k after) (tells calls.bound r) s
-  key_given : (k : ℕ) (r : Result Constant Refusal) → reads kind r ≡ key_reading s.tables.header s.tables.constants k → Exchange s (calls.key k) (tells (λ c. calls.kind (kind c)) r) s
-  name_given : (k : ℕ) (r : Result (Bor (List ℕ)) Refusal) → reads (λ p. p.now) r ≡ name_reading s.tables.header s.tables.names s.tables.constants k →
-      Exchange s (calls.name k) (tells (λ p. calls.bytes p.now) r) s
-  status_given : (r : Result Ended Refusal) → reads status r ≡ status_reading s.tables.header → Exchange s calls.status (tells (λ e. calls.ended (status e)) r) s
+  reading : (q : Question) (a : calls.Answer) → Reads s q a → Exchange s (calls.reading q) a s
 
 -- ---- a list of them: each begins with what the last one left, and nothing else writes a table between
 
 pub data Exchanges : State → List Event → Type 0 where
   none : {s : State} → Exchanges s []
   next : {s t : State} {c : Call} {a : calls.Answer} {es : List Event} → Exchange s c a t → Exchanges t es → Exchanges s (event c a ∷ es)
+  -- a call on the same header that is lent other slices than the store's own, one of them of another size
+  other : {s x y : State} {c : Call} {a : calls.Answer} {es : List Event} → x.tables.header ≡ s.tables.header → fits c x ≡ false → Exchange x c a y →
+      Exchanges (leaves s (with_header y.tables.header s.tables)) es → Exchanges s (event c a ∷ es)
 
--- ---- the claim: the store is what `fresh` hands back, in tables of 01's sizes that hold anything
+-- ---- the claim: the store is what `fresh` hands back, in tables that hold anything and have any size
 
 abbrev pub Demand3Code : Type 0
 Demand3Code =
     (o : Opaque) (l : Limits) (made : Store × Result (Unit {0}) Refusal) → replied made.1 made.0 ≡ fresh_of l → (s : State) → Lent s.tables → (es : List Event) → Exchanges (leaves s (with_header made.0 s.tables)) es →
-    All (λ e. Typed e.call) es → (fs : List Firing) (a : ℕ) (k : Key) → Reaches o (heard es) fs a k → (v : Value) → Memᴰ (event (calls.argument a) (calls.value v)) es → LiesIn (heard es) k v
+    All (λ e. Typed e.call) es → (fs : List Firing) (a : ℕ) (k : Key) → Reaches o (heard es) fs a k → (v : Value) → Memᴰ (event (calls.reading (asks.argument a)) (calls.shows (asks.value v))) es → LiesIn (heard es) k v

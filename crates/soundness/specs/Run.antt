@@ -9,7 +9,7 @@ use Rattle.rules.specs.declared.Rule.{Rule}
 use Rattle.rules.specs.Rule.{bindings_of, guards_of, heads_of}
 use Rattle.input.specs.Input.{context, work, predicate, argument, constant, expression, seed_value, seed_interval, rule, Reply, done, id}
 use Rattle.input.specs.Input as input
-use Rattle.numeric.specs.Step.{Event, store, run, context_count, slot, status, refused, reply, ran, value, number, bound, kind, bytes, ended}
+use Rattle.numeric.specs.Step.{Event, store, run, reading, refused, reply, ran, shows}
 use Rattle.numeric.specs.Step as calls
 use Rattle.soundness.specs.Plain.{Tree, nothing, Opaque, Choices, PlainBinding, PlainGuard, PlainHead, PlainState, Fires, into, HeadsGive}
 use Rattle.soundness.specs.Tied.{tree_of, plain_binding, plain_guard, plain_head}
@@ -96,24 +96,13 @@ abbrev pub learned_reply : Accepted → input.Call → calls.Answer → Accepted
 learned_reply p c (refused e) = p
 learned_reply p c (reply r) = said p c r
 learned_reply p c ran = p
-learned_reply p c (value v) = p
-learned_reply p c (number n) = p
-learned_reply p c (bound b) = p
-learned_reply p c (kind k) = p
-learned_reply p c (bytes b) = p
-learned_reply p c (ended s) = p
+learned_reply p c (shows a) = p
 
 -- the run and readings say nothing
 abbrev pub learned : Accepted → calls.Call → calls.Answer → Accepted
 learned p (store c) a = learned_reply p c a
 learned p (run w) a = p
-learned p (calls.argument b) a = p
-learned p (context_count b) a = p
-learned p (calls.context b k) a = p
-learned p (slot r k after) a = p
-learned p (calls.key k) a = p
-learned p (calls.name k) a = p
-learned p status a = p
+learned p (reading q) a = p
 
 unfoldable pub heard_from : Accepted → List Event → Accepted
 heard_from p [] = p

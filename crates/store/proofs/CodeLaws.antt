@@ -6,7 +6,7 @@ use native.Mathlib.Numerals.{add-one}
 use mathlib.Core.Path.{◌≡◌, refl, sym, ap, ◌∙◌}
 use mathlib.Core.Bool.{Bool, true, false}
 use mathlib.Core.List.{List}
-use borrow.Author.Tests.{leb-true, ltb-true, lt-ltb, eq-eqb}
+use borrow.Author.Tests.{leb-true, le-leb, ltb-true, lt-ltb, eq-eqb}
 use lib.Dec.{leb, ltb}
 use lib.IntN.{ℤ}
 use lib.ListN.{length, set}
@@ -100,10 +100,10 @@ bottoms_none seeds from = refl
 
 -- ---- an argument
 
-module _ (p i : ℕ) (rows : List ℕ) (s : Store) (n : length rows ≡ size.predicate_cells) {t : Bool} (h : t ≡ admits s.phase) (o : t ≡ true) (e : p < 64) (f : p < s.counts.predicates) where
+module _ (p i : ℕ) (rows : List ℕ) (s : Store) (n : length rows ≡ size.predicate_cells) {t : Bool} (h : t ≡ admits s.phase) (o : t ≡ true) (e : s.counts.predicates ≤ 64) (f : p < s.counts.predicates) where
   pub argument_id : {arity first : ℕ} → arity ≡ arity_of rows p → i < arity → first ≡ first_argument rows p → going (first + i) s ≡ argument_call p i rows s
   unfolding argument_call pure
-  argument_id {arity} a g q = rw (eq-eqb (length rows) size.predicate_cells n, ← h, o, lt-ltb p 64 e, lt-ltb p s.counts.predicates f, ← a, lt-ltb i arity g, q)
+  argument_id {arity} a g q = rw (eq-eqb (length rows) size.predicate_cells n, ← h, o, le-leb s.counts.predicates 64 e, lt-ltb p s.counts.predicates f, ← a, lt-ltb i arity g, q)
 
 -- ---- room for a predicate
 

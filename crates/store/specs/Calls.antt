@@ -61,9 +61,10 @@ unfoldable pub argument_call : ℕ → ℕ → List ℕ → Metered Told Store �
 argument_call p i rows =
     unless (λ s. eqb (length rows) size.predicate_cells) Shape
     (unless open? Closed
-    (unless (λ s. ltb p size.predicates && ltb p s.counts.predicates) Missing
+    (unless (λ s. leb s.counts.predicates size.predicates) Full
+    (unless (λ s. ltb p s.counts.predicates) Missing
     (unless (λ s. ltb i (arity_of rows p)) Missing
-    (pure (first_argument rows p + i)))))
+    (pure (first_argument rows p + i))))))
 
 -- ---- `Input::predicate`
 
@@ -78,7 +79,7 @@ bottoms seeds from (suc n) = put (bottoms seeds from n) (from + n) bottom
 
 -- 01, refusal 2, and table sizes: "64 predicates; 256 positions"
 abbrev pub room_for : ℕ → ℕ → ℕ → Bool
-room_for predicates positions arity = ltb predicates size.predicates && leb (positions + arity) size.positions
+room_for p n arity = ltb p size.predicates && leb (n + arity) size.positions
 
 -- the header and the tables that the call is lent
 pub record Tables : Type 0 where

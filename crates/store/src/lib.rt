@@ -168,7 +168,10 @@ impl Store {
         if !self.phase.admits() {
             return Err(Refusal::Closed);
         }
-        if sizes::PREDICATES as u64 <= predicate || self.counts.predicates as u64 <= predicate {
+        if sizes::PREDICATES < self.counts.predicates {
+            return Err(Refusal::Full);
+        }
+        if self.counts.predicates as u64 <= predicate {
             return Err(Refusal::Missing);
         }
         let row = sizes::PREDICATE_ROW * (predicate as usize);

@@ -14,5 +14,5 @@ pub returns : goal.returns
 returns c =
     let a = c.args in
     rw (c.release-2.ensures, c.release.ensures)
-    (both_done (input_in a.input.now) a.count a.meter.now a.produced.now a.refinements.now _ _ (narrowed (input_in a.input.now) a.count a.guard) (narrowed_asks (input_in a.input.now) a.count a.guard)
+    (both_done (input_in a.input.now) a.count a.meter.now a.produced.now a.refinements.now _ _ (narrowed (input_in a.input.now) a.count a.test) (narrowed_asks (input_in a.input.now) a.count a.test)
     (rw c.operands-first.ensures at c.in_ok-a.ensures) _ _ _ _ c.narrow-narrowed.ensures)
