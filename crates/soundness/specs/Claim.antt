@@ -46,8 +46,8 @@ pub record Lent (t : input.Tables) : Type 0 where
 
 -- ---- the claim
 
--- whatever the opaque functions are, and the limits, and what stood in the tables, of whatever sizes they are, the calls and the firings: a value that the plain run over the
--- accepted calls puts into an argument lies in what each reading of that argument gives
+-- whatever the opaque functions are, and the limits, the tables with their sizes and what stood in them, the calls and the firings: a value that
+-- the plain run over the accepted calls puts into an argument lies in what each reading of that argument gives
 abbrev pub Demand3 : Type 0
 Demand3 =
     (o : Opaque) (l : Limits) (s : State) → Lent s.tables → (cs : List Call) → All Typed cs → (fs : List Firing) (a : ℕ) (k : Key) → Reaches o (heard (play (fresh l s) cs)) fs a k →
