@@ -5,6 +5,7 @@ mod parts;
 mod reading;
 mod serving;
 mod tables;
+mod telling;
 mod writing;
 
 use limits::Limits;
@@ -12,6 +13,7 @@ use reading::{Malformed, Reader};
 use serving::Session;
 use store::Store;
 use tables::Tables;
+use telling::Teller;
 use writing::Writer;
 
 // What stands before the first call: no store, since no store is that wide.
@@ -35,6 +37,7 @@ fn nothing() -> Store {
 fn serve(session: &mut Session) -> Result<(), Malformed> {
     session.begin()?;
     for _ in 0..u64::MAX {
+        session.tell();
         match session.reader.call()? {
             None => return Ok(()),
             Some(30) => session.run(),
@@ -48,11 +51,13 @@ fn main(rt: HostRuntime) {
     let mut session = Session {
         reader: Reader::new(rt.stdin()),
         writer: Writer::new(rt.stdout()),
+        teller: Teller::new(rt.stderr()),
         store: nothing(),
         tables: Tables::new(),
     };
     if serve(&mut session).is_err() {
         session.writer.put(b"malformed\n");
+        session.teller.malformed(session.reader.place);
     }
     session.writer.flush();
 }

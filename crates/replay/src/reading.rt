@@ -7,7 +7,16 @@ use words::Word;
 #[derive(Clone, Copy, Debug, PartialEq, Eq)]
 pub struct Malformed {}
 
-// Standard input, and what of it has been read and not been looked at yet: the bytes from `at` up to `end`.
+// Where a word stands in the text, all counted from 1: its line, its number among the words, and the number of the call that it is part of.
+#[derive(Clone, Copy, Debug, PartialEq, Eq)]
+pub struct Place {
+    pub line: u64,
+    pub word: u64,
+    pub call: u64,
+}
+
+// Standard input, and what of it has been read and not been looked at yet: the bytes from `at` up to `end`. `place` is that of the word read
+// last, `start` that of the word that its call begins with.
 #[derive(Drop)]
 pub struct Reader {
     from: Stdin,
@@ -15,16 +24,25 @@ pub struct Reader {
     at: usize,
     end: usize,
     over: bool,
+    pub place: Place,
+    pub start: Place,
 }
 
 impl Reader {
     pub fn new(from: Stdin) -> Reader {
+        let place = Place {
+            line: 1,
+            word: 0,
+            call: 0,
+        };
         Reader {
             from,
             bytes: [0; 65536],
             at: 0,
             end: 0,
             over: false,
+            place,
+            start: place,
         }
     }
 
@@ -57,7 +75,11 @@ impl Reader {
     fn next_word(&mut self) -> Option<u8> {
         for _ in 0..u64::MAX {
             match self.peek() {
-                Some(b' ' | b'\n') => self.pass(),
+                Some(b' ') => self.pass(),
+                Some(b'\n') => {
+                    self.place.line = self.place.line.saturating_add(1);
+                    self.pass();
+                }
                 first => return first,
             }
         }
@@ -67,6 +89,7 @@ impl Reader {
     // The next word, part by part: it may go on behind the end of the buffer.
     fn word(&mut self) -> Result<Word, Malformed> {
         self.next_word();
+        self.place.word = self.place.word.saturating_add(1);
         let mut word = Word::new();
         for _ in 0..u64::MAX {
             self.fill();
@@ -102,6 +125,9 @@ impl Reader {
         if self.next_word().is_none() {
             return Ok(None);
         }
+        self.place.call = self.place.call.saturating_add(1);
+        self.start = self.place;
+        self.start.word = self.place.word.saturating_add(1);
         Ok(Some(self.number(51)?))
     }
 }

@@ -2,6 +2,7 @@
 use crate::parts;
 use crate::reading::{Malformed, Reader};
 use crate::tables::Tables;
+use crate::telling::Teller;
 use crate::writing::Writer;
 use interval::Constant;
 use keys::Key;
@@ -12,6 +13,7 @@ use store::{Phase, Store};
 pub struct Session {
     pub reader: Reader,
     pub writer: Writer,
+    pub teller: Teller,
     pub store: Store,
     pub tables: Tables,
 }
@@ -22,6 +24,13 @@ impl Session {
         match self.reader.call()? {
             Some(1) => self.fresh(),
             _ => Err(Malformed {}),
+        }
+    }
+
+    // If the call before this was refused, a person is told where and why.
+    pub fn tell(&mut self) {
+        if let Some(refusal) = self.writer.take_refusal() {
+            self.teller.refused(self.reader.start, refusal);
         }
     }
 

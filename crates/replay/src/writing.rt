@@ -2,12 +2,13 @@
 use limits::Refusal;
 use std::io::{Stdout, Write};
 
-// Standard output, and the first `len` bytes, which are not written out yet.
+// Standard output, and the first `len` bytes, which are not written out yet. `refusal` is the last one that was written, until it is taken.
 #[derive(Drop)]
 pub struct Writer {
     to: Stdout,
     bytes: [u8; 65536],
     len: usize,
+    refusal: Option<Refusal>,
 }
 
 impl Writer {
@@ -16,6 +17,7 @@ impl Writer {
             to,
             bytes: [0; 65536],
             len: 0,
+            refusal: None,
         }
     }
 
@@ -51,7 +53,15 @@ impl Writer {
         self.put(&word[..end]);
     }
 
+    // The refusal among what was written since this was last asked.
+    pub fn take_refusal(&mut self) -> Option<Refusal> {
+        let refusal = self.refusal;
+        self.refusal = None;
+        refusal
+    }
+
     pub fn refused(&mut self, refusal: Refusal) {
+        self.refusal = Some(refusal);
         let mut line = [0; sizes::LINE];
         if let Ok(len) = report::refusal_line(&mut line, refusal) {
             self.put(&line[..len.min(sizes::LINE)]);
