@@ -106,7 +106,7 @@ fn meet_bindings(
     Ok(())
 }
 
-// The three passes.
+// The three passes over the bindings: positive ones, the reasons of their slots, all others.
 fn bind_rows(
     input: &Input,
     cells: &mut [u32],

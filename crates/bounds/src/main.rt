@@ -182,7 +182,7 @@ fn limits() -> Limits {
     }
 }
 
-// "The argument gets `next` where slot 0 is in the argument and `slot` < `bound`."
+// The argument gets `next` where slot 0 is in the argument and `slot` < `bound`: 01 says it of its example with 10.
 fn counting(argument: u64, slot: u64, bound: u64, next: u64) -> Rule {
     let binding = Binding::Positive { slot: 0, argument };
     let guard = Guard::Compare {

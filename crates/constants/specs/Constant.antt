@@ -25,12 +25,12 @@ abbrev pub bytes_of : Key → List ℕ
 bytes_of (number v) = []
 bytes_of (name s) = s
 
--- "A number is always retained. A name of n bytes [..] is retained exactly if n is at most max_symbol_bytes."
+-- 01: "A number is always retained. A name of n bytes [..] is retained exactly if n is at most max_symbol_bytes."
 abbrev pub retains : Limits → Key → Bool
 retains l (number v) = true
 retains l (name s) = leb (length s) l.symbol
 
--- what classifying charges: "A name of n bytes charges n inspected bytes", a number "enters thresholds v−1, v, v+1 (those that fit)"
+-- what classifying charges, 01: "A name of n bytes charges n inspected bytes", a number "enters thresholds v−1, v, v+1 (those that fit)"
 abbrev pub classify : Key → Metered Told Marks (Unit {0})
 classify (number v) = entering (around v)
 classify (name s) = zoom (λ t. t.header) (λ s t. marks s t.table) (billing (bytes (length s)))
@@ -76,7 +76,7 @@ add_large t =
 unfoldable pub cost : ℕ → Metered Stop Budget (Unit {0})
 cost moved = links 1 >> work moved
 
--- "an equal retained key gives its old id, an unretained key always a new one"
+-- 01: "an equal retained key gives its old id, an unretained key always a new one"
 unfoldable pub settle : Key → ℕ → Place → Metered Told KeyTables ℕ
 settle k n (found i) = λ t. going (get_or t.order i 0) t
 settle k n (absent low) = paying (cost (n - low)) >> add_key k low

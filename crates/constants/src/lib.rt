@@ -14,7 +14,7 @@ use keys::Key;
 use limits::{Budget, Refusal, Resource, Stop};
 use store::{Counts, Store};
 
-// The tables' sizes.
+// Whether the tables have the sizes of 01.
 fn sized(names: usize, constants: usize, order: usize, thresholds: usize) -> bool
     ensures { result ≡ sized names constants order thresholds }
 {
@@ -170,7 +170,9 @@ fn retain_key(
     }
 }
 
-// The id of a key.
+// The id of a key: that of an equal retained one, else a new one.
+// Refused by 1, tables of other sizes, a name over 64 bytes, a store that is not open; 2, no room for a constant or three thresholds; then 3, 4 and 8.
+// Charges a unit of work; a name's bytes, or a number's thresholds; of a retained key the search; of a new one a link and the ids that move.
 #[tactic(auto, unfolding(crate::specs::Constant::constant_call))]
 pub fn constant(
     store: &mut Store,

@@ -46,7 +46,7 @@ clearing n s = going tt (start s.budget s.current (no_growth s.growth n))
 unfoldable pub seeded : List ℕ → ℕ → Metered Stop Start (Unit {0})
 seeded seeds n = copying seeds n >> paying_growth n >> clearing n
 
--- the same with the thresholds
+-- what a run begins with: the thresholds with the budget, and both tables that it works in
 pub record Beginning : Type 0 where
   pub entry : Entry
   pub current : List ℕ

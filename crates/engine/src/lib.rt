@@ -273,9 +273,10 @@ fn has_room(counts: &Counts) -> bool
         && counts.thresholds <= sizes::THRESHOLDS_BEFORE_RUN
 }
 
-// The run. It closes the store, completed or stopped, and charges what its rounds and its result cost. Tables of other sizes than 01's and a
-// closed store meet 1, then more rows than the tables have or thresholds without room for both ends 2. Of the three tables that it works in the
-// caller need not clear any; afterwards the first two hold the current values and the growth with which it ended.
+// The run: it closes the store, completed with its results or stopped by 3, 8, 9 or 10, which is no refusal. Nothing is answered.
+// Refused by 1, tables of other sizes, a store that is not open; 2, more rows than the tables have, or no room for both ends as thresholds.
+// Charges both ends, the copied seeds, each pass with its round, the last round and the closing units of work.
+// Of the tables that it works in none need be cleared; afterwards `current` and `growth` hold the values and the growth with which it ended.
 #[tactic(auto, unfolding(crate::specs::Call::run_call, crate::specs::Call::run_leaves))]
 pub fn run(
     store: &mut Store,

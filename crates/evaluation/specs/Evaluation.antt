@@ -63,11 +63,11 @@ combined nodes constants op l r x y =
     cond (empty? x || empty? y) (pure Bottom)
     (identical nodes op l r >>= (λ t. pure (cond t (Bounded (pos 0) (pos 0)) (cond (covered nodes constants op l r) (binary_of op x y) Unbounded))))
 
--- of one operand, which is dropped
+-- a node with one operand, which is dropped
 unfoldable pub after_one : Interval → Value → Metered Stop Meter Value
 after_one i a = dropping (entries_of a) (work 1 >> pure (numeric i))
 
--- of two: b is dropped here
+-- a node with two operands: b is dropped here, a by the scope around it
 unfoldable pub after_two : List ℕ → List ℕ → BinaryOp → ℕ → ℕ → Value → Value → Metered Stop Meter Value
 after_two nodes constants op l r a b =
     dropping (entries_of b) (work 1 >> (combined nodes constants op l r a.bound.interval b.bound.interval >>= (λ i. pure (numeric i))))

@@ -1,4 +1,4 @@
--- The examples of 01 that are proved, one row each: a computation, and what it gives.
+-- The examples of 01 that are proved, one row each, with 01's words above it: a computation, and what it gives.
 use Rattle.std.specs.Prelude.{ℕ, ◌*◌, ◌≡◌, List, [], ◌∷◌, pos, replicate}
 use Rattle.sizes.specs.Sizes as size
 use Rattle.std.proofs.Math.Option.{Option, some, none}
@@ -36,7 +36,7 @@ pub data Example : Type 1 where
 abbrev pub Right : Example → Type 0
 Right (x is y) = x ≡ y
 
--- every row is right
+-- what the theorem says of the table: each row's computation gives what stands beside it
 abbrev pub Every : List Example → Type 0
 Every [] = Unit {0}
 Every (e ∷ l) = Right e × Every l

@@ -42,12 +42,12 @@ supported (Absolute e) = true
 supported (Binary op l r) = ported op
 supported (Unknown i w) = true
 
--- ---- nesting: "a leaf is 1, a missing child 0"
+-- ---- nesting, 01: "a leaf is 1, a missing child 0"
 
 abbrev pub child_nesting : List ℕ → ℕ → ℕ → ℕ
 child_nesting nodes count e = cond (ltb e count) (nesting_at nodes e) 0
 
--- the larger of the children's
+-- the nesting of the child that has more, 0 of an expression without children
 abbrev pub deepest : List ℕ → ℕ → Expression → ℕ
 deepest nodes count (Constant id) = 0
 deepest nodes count (Slot s) = 0
@@ -75,7 +75,7 @@ unfoldable pub seek_node : List ℕ → Node → ℕ → ℕ → Metered Stop Me
 seek_node nodes e at zero = pure (absent at)
 seek_node nodes e at (suc n) = inner.work 1 >> cond (same_node (node_at nodes at) e) (pure (found at)) (seek_node nodes e (at + 1) n)
 
--- "`expression` gives an equal older id except for Unknown"
+-- 01: "`expression` gives an equal older id except for Unknown"
 abbrev pub shared : Expression → Bool
 shared (Constant id) = true
 shared (Slot s) = true
@@ -103,7 +103,7 @@ tables s n = record { header = s; nodes = n }
 abbrev pub paying : {A : Type 0} → Metered Stop Budget A → Metered Told Tables A
 paying m = zoom (λ t. t.header) (λ s t. tables s t.nodes) (billing m)
 
--- the new row
+-- an expression that no older one equals gets the next id, and a row with its nesting
 abbrev pub add_node : Expression → Metered Told Tables ℕ
 add_node e t =
     let id = t.header.counts.expressions in

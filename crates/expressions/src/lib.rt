@@ -152,7 +152,9 @@ fn share(store: &mut Store, nodes: &mut [u64], value: Expression) -> Result<usiz
     Ok(id)
 }
 
-// An expression: its id.
+// The id of an expression: that of an older equal one, but for an Unknown, else a new one.
+// Refused by 1, a table of another size, division, remainder, a store that is not open, nesting over 64; 2, no room; 3; 5, no such part; 3; 8.
+// Charges a unit of work, one for each expression that is compared, and a link where it is new.
 #[tactic(auto, unfolding(crate::specs::Expression::expression_call))]
 pub fn expression(store: &mut Store, nodes: &mut [u64], value: Expression) -> Result<usize, Refusal>
     ensures { replied result (tables store.new nodes.new) ≡ expression_call value (tables store.old nodes.old) }

@@ -1,4 +1,4 @@
--- What guards ask of a value.
+-- What guards ask of a value: its bound alone, for which the code hands operands on and not values.
 use Rattle.std.proofs.Math.Option.{none}
 use Rattle.std.specs.Prelude.{None}
 use Rattle.interval.specs.declared.Bound.{Bound}

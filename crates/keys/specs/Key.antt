@@ -12,12 +12,12 @@ use Rattle.keys.specs.declared.Key as declared
 use Rattle.keys.specs.declared.Key.TheVariants.{Number, Name}
 use Rattle.search.specs.Seek.{Place, by, compareℕ, compareℤ, seek}
 
--- "a key is a signed 32-bit number or a name of 0 to 64 bytes"
+-- 01: "a key is a signed 32-bit number or a name of 0 to 64 bytes"
 pub data Key : Type 0 where
   number : ℤ → Key
   name : List ℕ → Key
 
--- ---- "Numbers precede names; numbers go by value, names by bytes, a proper prefix first"
+-- ---- 01: "Numbers precede names; numbers go by value, names by bytes, a proper prefix first"
 
 unfoldable pub compare_bytes : List ℕ → List ℕ → Ordering
 compare_bytes [] [] = Equal
@@ -57,7 +57,7 @@ put_name names id text = sets names (size.name * id) text
 
 -- ---- the search
 
--- the key that the code has
+-- a key of the code as one of the definitions: the bytes of a name are those of its slice
 abbrev pub key_of : declared.Key → Key
 key_of (Number z) = number z
 key_of (Name text) = name text.now
@@ -66,6 +66,6 @@ key_of (Name text) = name text.now
 abbrev pub probe : List ℕ → List ℕ → List ℕ → Key → ℕ → Ordering
 probe names cells order k i = compare_keys (key_at names cells (get_or order i 0)) k
 
--- among the first `count` ids; one unit of work for each key that is looked at, and "comparing charges nothing"
+-- among the first `count` ids; one unit of work for each key that is looked at, and, 01: "Comparing charges nothing"
 unfoldable pub seek_key : List ℕ → List ℕ → List ℕ → ℕ → Key → Metered Stop Meter Place
 seek_key names cells order count k = seek (probe names cells order k) count 0 count

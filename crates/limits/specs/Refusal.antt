@@ -16,7 +16,7 @@ resource_number Links = 8
 resource_number ValueEntries = 9
 resource_number Rounds = 10
 
--- "Numbers 3, 4 and 6 to 10 carry resource, limit and observed sum": the resource by its number
+-- 01: "Numbers 3, 4 and 6 to 10 carry resource, limit and observed sum": the resource by its number
 pub record Told : Type 0 where
   pub number : ℕ
   pub values : List ℕ

@@ -345,7 +345,7 @@ impl Budget {
         }
     }
 
-    // What was charged on a meter.
+    // Takes over the counts of a meter on which was charged.
     pub fn settle(&mut self, meter: Meter)
         ensures { self.new ≡ with_meter meter self.old }
     {

@@ -1,4 +1,4 @@
-//! A list as it is made.
+//! A list in the making: ids behind one another, and how many there are.
 #![tactic(auto)]
 
 ghost use Rattle.std.specs.Prelude.{◌≡◌, ◌<◌, ◌≤◌, [], ◌∷◌, ◌++◌, length, take};

@@ -20,7 +20,7 @@ pub data Reading (A : Type 0) : Type 0 where
   given : A → Reading A
   refused : Told → Reading A
 
--- "a reading finds it open" meets 1; "A stopped run reports no arguments and no rules [..]; their ids then meet 5"
+-- 01: "a reading finds it open" meets 1; "A stopped run reports no arguments and no rules [..]; their ids then meet 5"
 abbrev pub in_phase : {A : Type 0} → Phase → Reading A → Reading A
 in_phase Absent r = refused (told Closed)
 in_phase Open r = refused (told Closed)
@@ -36,7 +36,7 @@ there exists a = cond exists (given a) (refused (told Missing))
 
 -- ---- arguments
 
--- its bound, list and reason
+-- what a completed run has left of an argument: its bound, list and reason
 unfoldable pub argument_reading : Store → List ℕ → ℕ → Reading Value
 argument_reading s arguments a = reading (eqb (length arguments) size.argument_cells) s (there (ltb a s.counts.positions) (value_at arguments a))
 
@@ -49,7 +49,7 @@ contexts_of records (suc n) a = contexts_of records n a ++ cond (eqb (get_or rec
 abbrev pub recorded : Store → List ℕ → ℕ → List ℕ
 recorded s records a = contexts_of records (min s.counts.provenance size.records) a
 
--- how many, and the k-th
+-- how many contexts an argument is recorded with; the k-th of them is below
 unfoldable pub context_count_reading : Store → List ℕ → ℕ → Reading ℕ
 context_count_reading s records a = reading (eqb (length records) size.record_cells) s (there (ltb a s.counts.positions) (length (recorded s records a)))
 
@@ -61,7 +61,7 @@ context_reading s records a k = reading (eqb (length records) size.record_cells)
 
 -- ---- the slots of a rule
 
--- before guards, or after them
+-- the bound of a rule's slot before guards, or after them
 unfoldable pub slot_reading : Store → List ℕ → List ℕ → ℕ → ℕ → Bool → Reading Bound
 slot_reading s rules slots r k after =
     reading (eqb (length rules) size.rule_cells && eqb (length slots) size.bounds_cells) s
@@ -69,7 +69,7 @@ slot_reading s rules slots r k after =
 
 -- ---- constants
 
--- "a key is a signed 32-bit number or a name": of a name, whether it is retained
+-- 01: "a key is a signed 32-bit number or a name": of a name, whether it is retained
 pub data Kind : Type 0 where
   number : ℤ → Kind
   name : Kind
@@ -81,7 +81,7 @@ kind_of constants id = cond (eqb (kind_at constants id) 1) (number (of_cell (pay
 unfoldable pub key_reading : Store → List ℕ → ℕ → Reading Kind
 key_reading s constants id = reading (eqb (length constants) size.constant_cells) s (there (ltb id s.counts.constants) (kind_of constants id))
 
--- "The name of a retained constant is handed back as a part of the lent name store": a number has none, and neither has a name that is not retained
+-- 01: "The name of a retained constant is handed back as a part of the lent name store": a number has none, and neither has a name that is not retained
 abbrev pub name_of : List ℕ → List ℕ → ℕ → List ℕ
 name_of names constants id = cond (eqb (kind_at constants id) 2) (name_at names id (payload_at constants id)) []
 

@@ -16,7 +16,7 @@ use Rattle.numeric.specs.Reading as readings
 -- ---- calls and their answers
 
 pub data Call : Type 0 where
-  -- `context` to `rule`
+  -- a call that builds the store, `context` to `rule`
   store : input.Call → Call
   -- lent tables to work in, which may hold anything
   run : Working → Call

@@ -36,6 +36,8 @@ fn readable(sized: bool, phase: Phase) -> Result<(), Refusal>
 }
 
 // An argument's bound, list and reason.
+// Refused by 1, a table of another size, a run that has not ended; 5, a stopped run, no such argument.
+// Charges nothing, as no reading does.
 #[tactic(auto, unfolding(crate::specs::Reading::argument_reading))]
 pub fn argument(store: &Store, arguments: &[u32], argument: u64) -> Result<Abstract, Refusal>
     ensures { reads value_of result ≡ argument_reading store.now arguments.now argument }
@@ -87,6 +89,8 @@ fn find_context(records: &[u32], count: usize, argument: u64, k: u64) -> Result<
 }
 
 // How many contexts an argument is recorded with.
+// Refused by 1, a table of another size, a run that has not ended; 5, a stopped run, no such argument.
+// Charges nothing.
 #[tactic(auto, unfolding(crate::specs::Reading::context_count_reading))]
 pub fn context_count(store: &Store, records: &[u32], argument: u64) -> Result<u64, Refusal>
     ensures { reads (λ n. n) result ≡ context_count_reading store.now records.now argument }
@@ -98,7 +102,9 @@ pub fn context_count(store: &Store, records: &[u32], argument: u64) -> Result<u6
     Ok(count_contexts(records, store.counts.provenance.min(RECORDS), argument))
 }
 
-// The k-th of them, in the order recorded.
+// The k-th context that an argument is recorded with, in the order recorded, from 0 on.
+// Refused by 1, a table of another size, a run that has not ended; 5, a stopped run, no such argument, no k-th context.
+// Charges nothing.
 #[tactic(auto, unfolding(crate::specs::Reading::context_reading))]
 pub fn context(store: &Store, records: &[u32], argument: u64, k: u64) -> Result<u64, Refusal>
     ensures { reads (λ n. n) result ≡ context_reading store.now records.now argument k }
@@ -117,6 +123,8 @@ fn is_slots_sized(rules: usize, slots: usize) -> bool
 }
 
 // The bound of a rule's slot, before guards or after them.
+// Refused by 1, tables of other sizes, a run that has not ended; 5, a stopped run, no such rule, no such slot.
+// Charges nothing.
 #[tactic(auto, unfolding(crate::specs::Reading::slot_reading))]
 pub fn slot(
     store: &Store,
@@ -140,6 +148,8 @@ pub fn slot(
 }
 
 // The key of a constant, but for the bytes of a name.
+// Refused by 1, a table of another size, a run that has not ended; 5, a stopped run, no such constant.
+// Charges nothing.
 #[tactic(auto, unfolding(crate::specs::Reading::key_reading))]
 pub fn key(store: &Store, constants: &[u32], constant: u64) -> Result<Constant, Refusal>
     ensures { reads kind result ≡ key_reading store.now constants.now constant }
@@ -178,6 +188,8 @@ fn is_names_sized(names: usize, constants: usize) -> bool
 }
 
 // The name of a constant, a part of the lent name store, as 01 names it: empty where it has none that is retained.
+// Refused by 1, tables of other sizes, a run that has not ended; 5, a stopped run, no such constant.
+// Charges nothing.
 #[tactic(auto, unfolding(crate::specs::Reading::name_reading))]
 pub fn name<'a>(
     store: &Store,
@@ -194,7 +206,9 @@ pub fn name<'a>(
     Ok(name_of(names, constants, constant as usize))
 }
 
-// How the run ended.
+// How the run ended; the statistics beside it are a field of the header.
+// Refused by 1, a run that has not ended.
+// Charges nothing.
 #[tactic(auto, unfolding(crate::specs::Reading::status_reading))]
 pub fn status(store: &Store) -> Result<Ended, Refusal>
     ensures { reads status result ≡ status_reading store.now }

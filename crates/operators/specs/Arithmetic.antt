@@ -42,7 +42,7 @@ unary_of Negate Unbounded = Unbounded
 unary_of BitwiseNot (Bounded low high) = Unbounded
 unary_of BitwiseNot Unbounded = Unbounded
 
--- and so is an absolute value
+-- the absolute value of a range would be one, but transfer.rs does not ask for it: Unbounded, as bitwise not is
 abbrev pub absolute_of : Interval → Interval
 absolute_of Bottom = Bottom
 absolute_of (Bounded low high) = Unbounded

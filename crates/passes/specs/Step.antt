@@ -65,7 +65,7 @@ advanced k old s (going g m) =
     (steps (count_lost (loses old.values g.value.values) (with_meter m s.budget)) (put s.next k g.value) (put_growth s.growth k g.growth))
 advanced k old s (stopped e m) = stopped e (steps (with_meter m s.budget) s.next s.growth)
 
--- the k-th argument
+-- the k-th argument: its value and its candidate, joined and widened, and its growth
 unfoldable pub advance_one : List ℤ → List ℕ → List ℕ → ℕ → Metered Stop Steps Bool
 advance_one thresholds current candidates k s =
     advanced k (value_at current k) s

@@ -35,11 +35,11 @@ pub record Scope : Type 0 where
 abbrev pub scope : List ℕ → ℕ → ℕ → Scope
 scope n e s = record { nodes = n; expressions = e; slots = s }
 
--- one unit of work
+-- a unit of work on the meter, its stop told as a refusal of the call
 abbrev pub unit : Metered Told Meter (Unit {0})
 unit = stopping (λ e. told (Limit e)) (inner.work 1)
 
--- a step before each of a list
+-- what is checked of each item of a list, a unit of work before it
 unfoldable pub each : {A : Type 0} → (A → Metered Told Meter (Unit {0})) → List A → Metered Told Meter (Unit {0})
 each f [] = pure tt
 each f (a ∷ l) = unit >> f a >> each f l
@@ -67,7 +67,7 @@ check_expression s id = check_in (suc id) s id
 unfoldable pub check_pair : Scope → ℕ → ℕ → Metered Told Meter (Unit {0})
 check_pair s first second = check_expression s first >> check_expression s second
 
--- of so many arguments
+-- a binding, where so many arguments stand: its argument or its expressions, then its slot
 abbrev pub check_binding : ℕ → Scope → Binding → Metered Told Meter (Unit {0})
 check_binding arguments s (Positive slot argument) = unless (λ _. ltb argument arguments) Missing (slot_in s.slots slot)
 check_binding arguments s (Assign slot value) = check_expression s value >> slot_in s.slots slot

@@ -187,7 +187,7 @@ fn is_shapely(rule: &Rule) -> bool
         && rule.lengths.queries == 0
 }
 
-// The tables' sizes.
+// Whether the tables have the sizes of 01.
 fn is_sized(nodes: usize, rules: usize, records: usize) -> bool
     ensures { result ≡ sized nodes rules records }
 {
@@ -240,7 +240,9 @@ fn check_rule(
     checker.check_heads(store, table, &rule.heads[..rule.lengths.heads as usize])
 }
 
-// A rule: its id.
+// A rule: its id. What its heads have recorded of the context stays where it is refused.
+// Refused by 1, tables of other sizes, a shape that the port lacks, a store that is not open; 2, no room; 3; 8; then 3, 5 and 8, part by part.
+// Charges a unit of work, its links at once, one unit for each part and each node of its expressions, and a link for each record.
 #[tactic(auto, unfolding(crate::specs::Producer::rule_call))]
 pub fn rule(
     store: &mut Store,

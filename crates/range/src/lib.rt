@@ -45,7 +45,7 @@ impl Range {
         checked(i64::from(low), i64::from(high))
     }
 
-    // The two ends.
+    // Both ends, the low one first: the fields are private.
     pub fn bounds(self) -> (i32, i32)
         ensures { result ≡ bounds_of self }
     {

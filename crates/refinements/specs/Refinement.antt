@@ -28,7 +28,7 @@ refinement_at cells k = record {
   restriction = interval_of (get_or cells (size.refinement_row * k + 1) 0) (of_cell (get_or cells (size.refinement_row * k + 2) 0)) (of_cell (get_or cells (size.refinement_row * k + 3) 0));
 }
 
--- the first n
+-- what the first n rows say
 abbrev pub refinements_of : List ℕ → ℕ → List Refinement
 refinements_of cells n = from (refinement_at cells) 0 n
 
@@ -44,7 +44,7 @@ integer? v = cond (mixed v.bound.integrality) false true
 abbrev pub narrow : List ℕ → Interval → Value → Metered Stop Meter Value
 narrow constants i v = cond (integer? v) (dropping (entries_of v) (refine constants v i)) (pure v)
 
--- "After every worked-out node the recorded narrowings are searched, 1 each up to the hit."
+-- as transfer.rs does after every node: what is recorded is searched, a unit of work for each up to the one of this expression
 unfoldable pub restrict : List ℕ → List Refinement → ℕ → Value → Metered Stop Meter Value
 restrict constants [] id v = pure v
 restrict constants (r ∷ rs) id v = holding (entries_of v) (work 1) >> cond (eqb r.expression id) (narrow constants r.restriction v) (restrict constants rs id v)

@@ -32,7 +32,7 @@ fn expression_at(cells: &[u32], k: usize) -> u64
     u64::from(cell_at(cells, at))
 }
 
-// The interval of one of them.
+// The interval in which the value of the k-th expression lies.
 pub fn restriction_at(cells: &[u32], k: usize) -> Interval
     ensures { result ≡ (refinement_at cells.now k).restriction }
 {

@@ -330,7 +330,7 @@ impl Session {
         }
     }
 
-    // All counts.
+    // The line of call 50, all counts.
     fn counts_line(&mut self) {
         let counts = self.store.budget.statistics;
         self.writer.put(b"n");

@@ -18,7 +18,7 @@ use Rattle.text.specs.Text.{decimal, bound_words, list_word, line}
 abbrev pub told_words : Told → List (List ℕ)
 told_words t = decimal t.number ∷ map decimal t.values
 
--- "Line 1: arguments, rules (a stopped run: `stop`, the resource as its refusal number, limit, observed [..])": first the bytes of `done`
+-- 01: "Line 1: arguments, rules (a stopped run: `stop`, the resource as its refusal number, limit, observed [..])": first the bytes of `done`
 abbrev pub done_text : ℕ → ℕ → List ℕ
 done_text arguments rules = line (100 ∷ 111 ∷ 110 ∷ 101 ∷ []) (decimal arguments ∷ decimal rules ∷ [])
 
@@ -30,15 +30,15 @@ abbrev pub status_text : Store → Status → List ℕ
 status_text s completed = done_text s.counts.positions s.counts.rules
 status_text s (halted t c) = stop_text t
 
--- "`a`: argument, I or M, low, high, list [..], reason"; 97 is `a`
+-- 01: "`a`: argument, I or M, low, high, list [..], reason"; 97 is `a`
 abbrev pub argument_text : ℕ → Value → List ℕ
 argument_text a v = line (97 ∷ []) (decimal a ∷ (bound_words v.bound ++ (list_word v.values ∷ decimal (reason_number v.widening) ∷ [])))
 
--- "`d`, `g`: rule, slot, bound before and after guards"; 100 is `d`, 103 `g`
+-- 01: "`d`, `g`: rule, slot, bound before and after guards"; 100 is `d`, 103 `g`
 abbrev pub slot_text : ℕ → ℕ → Bool → Bound → List ℕ
 slot_text r k after b = line (cond after 103 100 ∷ []) (decimal r ∷ decimal k ∷ bound_words b)
 
--- "`s`: predicates, positions, links, live entries, rounds, inspected bytes, widened"; 115 is `s`
+-- 01: "`s`: predicates, positions, links, live entries, rounds, inspected bytes, widened"; 115 is `s`
 abbrev pub statistics_text : Statistics → List ℕ
 statistics_text n =
     line (115 ∷ [])
@@ -87,7 +87,7 @@ put_line buffer (refused e) = lined (refused e) buffer
 abbrev pub on_buffer : List ℕ → Reading (List ℕ) → Lined
 on_buffer buffer r = cond (eqb (length buffer) size.line) (put_line buffer r) (lined (refused (told Shape)) buffer)
 
--- the code's answer
+-- what a line's function answers and leaves in the buffer, as its definition says it
 abbrev pub written : Result ℕ Refusal → List ℕ → Lined
 written (Ok n) b = lined (given n) b
 written (Err e) b = lined (refused (told e)) b

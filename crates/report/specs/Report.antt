@@ -1,4 +1,4 @@
--- The report as a whole: all of its lines in 01's order. "after all `a` lines, rule by rule, slot by slot, `d` then `g`"
+-- The report as a whole: all of its lines in 01's order, whose words are quoted. "after all `a` lines, rule by rule, slot by slot, `d` then `g`"
 use Rattle.std.specs.Prelude.{ℕ, min, Bool, true, false, cond, ◌&&◌, List, [], ◌∷◌, ◌++◌, map, eqb, ltb, length, get_or}
 use Rattle.std.specs.List.{flat_map, range_with_len}
 use Rattle.sizes.specs.Sizes as size

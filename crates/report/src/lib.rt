@@ -116,7 +116,9 @@ fn put_statistics(line: &mut [u8], counts: Statistics) -> usize
     text::put_byte(line, end, b'\n')
 }
 
-// The first line of a report: `done` or `stop`. Answers how long it is.
+// The first line of a report, `done` or `stop`, into the buffer; answered is how long it is, as by every line below.
+// Refused by 1, a buffer of another size, a run that has not ended.
+// Charges nothing.
 pub fn status_line(store: &Store, line: &mut [u8]) -> Result<usize, Refusal>
     ensures { written result line.new ≡ on_buffer line.old (status_line store.now) }
 {
@@ -134,7 +136,9 @@ pub fn status_line(store: &Store, line: &mut [u8]) -> Result<usize, Refusal>
     }
 }
 
-// The line `a` of an argument. A buffer of another size meets 1; then come the refusals of `numeric::argument`. Nothing is charged.
+// The line `a` of an argument.
+// Refused by 1, a buffer of another size; then as `numeric::argument` is.
+// Charges nothing.
 pub fn argument_line(
     store: &Store,
     arguments: &[u32],
@@ -150,7 +154,9 @@ pub fn argument_line(
     Ok(put_argument(line, argument, value))
 }
 
-// The line `d` of a slot before guards, or `g` after them. A buffer of another size meets 1; then come the refusals of `numeric::slot`.
+// The line `d` of a slot before guards, or `g` after them.
+// Refused by 1, a buffer of another size; then as `numeric::slot` is.
+// Charges nothing.
 pub fn slot_line(
     store: &Store,
     rules: &[u32],
@@ -169,7 +175,9 @@ pub fn slot_line(
     Ok(put_slot(line, rule, slot, after, bound))
 }
 
-// The line `s`, in any phase. A buffer of another size meets 1.
+// The line `s`, in any phase.
+// Refused by 1, a buffer of another size.
+// Charges nothing.
 pub fn statistics_line(store: &Store, line: &mut [u8]) -> Result<usize, Refusal>
     ensures { written result line.new ≡ on_buffer line.old (statistics_line store.now) }
 {
@@ -179,7 +187,9 @@ pub fn statistics_line(store: &Store, line: &mut [u8]) -> Result<usize, Refusal>
     Ok(put_statistics(line, store.budget.statistics))
 }
 
-// A refusal as the line of a job. A buffer of another size meets 1.
+// A refusal as the line of a job.
+// Refused by 1, a buffer of another size.
+// Charges nothing.
 pub fn refusal_line(line: &mut [u8], refusal: Refusal) -> Result<usize, Refusal>
     ensures { written result line.new ≡ on_buffer line.old (refusal_line refusal) }
 {
@@ -294,6 +304,8 @@ fn stopped_line(store: &Store, line: &mut [u8], stop: Stop, k: u64) -> Result<us
 }
 
 // How many lines the report of an ended run has.
+// Refused by 1, tables of other sizes, a run that has not ended.
+// Charges nothing.
 pub fn line_count(
     store: &Store,
     arguments: &[u32],
@@ -315,8 +327,9 @@ pub fn line_count(
     }
 }
 
-// The k-th of them, from 0 on, into the buffer. A buffer or table of another size meets 1, as a store without an ended run does; a line that
-// the report does not have meets 5.
+// The k-th line of the report, from 0 on, into the buffer; answered is how long it is.
+// Refused by 1, a buffer or tables of other sizes, a run that has not ended; 5, a line that the report does not have.
+// Charges nothing.
 pub fn report_line(
     store: &Store,
     arguments: &[u32],

@@ -38,7 +38,7 @@ keep_bounds rows id after k (suc n) = after_unit (keeping id k after (value_at r
 unfoldable pub keep_both : List ℕ → List ℕ → ℕ → ℕ → Metered Stop Slots (Unit {0})
 keep_both domains produced n id = keep_bounds domains id false 0 n >> keep_bounds produced id true 0 n
 
--- one rule
+-- one rule: its slots are made once more, over the values of the result, and their bounds kept
 unfoldable pub bound : Input → List ℕ → List ℕ → ℕ → Metered Stop Slots (Unit {0})
 bound i rules current id = with_locals i rules id current (λ l. keep_both l.domains l.produced (slots_at rules id) id)
 

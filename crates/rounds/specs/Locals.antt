@@ -20,11 +20,11 @@ pub record Locals : Type 0 where
 abbrev pub locals : List ℕ → List ℕ → List Refinement → Locals
 locals d p k = record { domains = d; produced = p; known = k }
 
--- into tables as they stand
+-- a rule's slots and refinements, written into tables as they stand: the answer is how many refinements there are
 unfoldable pub fill : Input → List ℕ → ℕ → List ℕ → Metered Stop Frame ℕ
 fill i rules id arguments = zoom (λ s. s.meter) (λ m s. frame m s.domains s.produced s.refinements) (work 1) >> rule i rules id arguments
 
--- in tables of n slots of their own
+-- tables of n slots of their own, blank: nothing of what a lent table held is in a rule's slots
 abbrev pub blank_frame : ℕ → Meter → Frame
 blank_frame n m = frame m (blank n) (blank n) (replicate size.refinement_cells 0)
 

@@ -64,11 +64,11 @@ each_rule rules f k (suc n) = set_context (context_at rules k) >> in_table (f k)
 unfoldable pub join_owned : ℕ → ℕ → Value → Metered Stop Slots (Unit {0})
 join_owned width argument v = dropping v (replace argument (λ old. join width old v))
 
--- under what the guards have recorded
+-- a head's value, worked out under what the guards have recorded, joined into its argument
 unfoldable pub join_head : Input → List ℕ → List Refinement → Head → Metered Stop Slots (Unit {0})
 join_head i produced known h = paying (head i produced known h.value) >>= join_owned i.width h.argument
 
--- one rule of a round
+-- one rule of a round: its slots, and with them its heads, a unit of work before each
 unfoldable pub apply : Input → List ℕ → List ℕ → ℕ → Metered Stop Slots (Unit {0})
 apply i rules previous id = with_locals i rules id previous (λ l. each (join_head i l.produced l.known) (heads_at rules id))
 

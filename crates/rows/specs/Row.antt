@@ -110,7 +110,7 @@ bound_of cells at = record {
   interval = interval_of (get_or cells (at + size.value_case) 0) (of_cell (get_or cells (at + size.value_low) 0)) (of_cell (get_or cells (at + size.value_high) 0));
 }
 
--- the first n rows
+-- the values that the first n rows decode to
 unfoldable pub values_of : List ℕ → ℕ → List Value
 values_of cells zero = []
 values_of cells (suc n) = values_of cells n ++ (value_at cells n ∷ [])

@@ -32,7 +32,7 @@ guard_of kind a b c = get_or (Compare a (relation_of b) c ∷ Membership a b c �
 abbrev pub head_of : ℕ → ℕ → Head
 head_of a b = record { argument = a; value = b }
 
--- mark 0 is none
+-- the context of a row: mark 0 says that there is none
 abbrev pub context_of : ℕ → ℕ → Context
 context_of mark number = cond (eqb mark 0) None (Some number)
 
@@ -72,7 +72,7 @@ guard_at cells id j = guard_from cells (size.rule_row * id + size.rule_guards + 
 unfoldable pub head_at : List ℕ → ℕ → ℕ → Head
 head_at cells id j = head_from cells (size.rule_row * id + size.rule_heads + 2 * j)
 
--- all that a row has
+-- the bindings, guards and heads of a row, as many as its lengths say
 abbrev pub bindings_at : List ℕ → ℕ → List Binding
 bindings_at cells id = from (binding_at cells id) 0 (binding_count cells id)
 

@@ -66,7 +66,7 @@ abbrev pub context_number : Context → ℕ
 context_number None = 0
 context_number (Some c) = c
 
--- one after another
+-- the cells of each item of a list, one item behind the other
 unfoldable pub flat : {A : Type 0} → (A → List ℕ) → List A → List ℕ
 flat f [] = []
 flat f (a ∷ l) = f a ++ flat f l

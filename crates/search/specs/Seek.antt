@@ -38,7 +38,7 @@ seek probe (suc turns) low high =
 abbrev pub compareℕ : ℕ → ℕ → Ordering
 compareℕ = nat_cmp
 
--- two integers
+-- and two integers
 abbrev pub compareℤ : ℤ → ℤ → Ordering
 compareℤ = int_cmp
 

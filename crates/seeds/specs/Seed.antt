@@ -124,7 +124,7 @@ in_tables = zoom (λ t. tables t.header t.seeds t.records) (λ u t. interval_tab
 abbrev pub in_ends : {A : Type 0} → Metered Told Ends A → Metered Told IntervalTables A
 in_ends = zoom (λ t. ends t.header t.seeds t.thresholds) (λ e t. interval_tables e.header e.seeds t.records e.thresholds)
 
--- "`seed_interval` charges 1 work, rejects low > high, then records provenance, then thresholds, then joins."
+-- 01: "`seed_interval` charges 1 work, rejects low > high, then records provenance, then thresholds, then joins."
 unfoldable pub seed_interval_call : ℕ → ℤ → ℤ → Metered Told IntervalTables (Unit {0})
 seed_interval_call a low high =
     unless (λ t. eqb (length t.thresholds) size.thresholds && sized (length t.seeds) (length t.records)) Shape

@@ -94,7 +94,9 @@ fn has_room(store: &Store) -> bool
         && provenance::is_recordable(store.context, store.counts.provenance)
 }
 
-// A constant is seeded to an argument.
+// A constant is seeded to an argument. Nothing is answered.
+// Refused by 1, tables of other sizes, a store that is not open; 2, no room; 3; 5, no such constant, then no such argument; 8; then 9 and 3.
+// Charges a unit of work; a link for a record of the context, if one is set; the value's entry and its join with the seed.
 #[tactic(auto, unfolding(crate::specs::Seed::seed_value_call))]
 pub fn seed_value(
     store: &mut Store,
@@ -149,7 +151,9 @@ fn seed_ends(
     seed(store, seeds, argument, value)
 }
 
-// An interval is seeded to an argument.
+// An interval is seeded to an argument. Nothing is answered.
+// Refused by 1, tables of other sizes, a store that is not open; 2, no room; 3; 5, low exceeds high, then no such argument; 8; then 3 and 8.
+// Charges a unit of work; a link for a record of the context, if one is set; the thresholds of both ends; the join with the seed.
 #[tactic(auto, unfolding(crate::specs::Seed::seed_interval_call))]
 pub fn seed_interval(
     store: &mut Store,

@@ -24,14 +24,14 @@ thresholds = 4096
 abbrev pub records : ℕ
 records = 1024
 
--- "`constant` and `seed_interval` need at most 4,088 standing"; a run enters two more
+-- 01: "`constant` and `seed_interval` need at most 4,088 standing"; a run enters two more
 abbrev pub thresholds_before_call : ℕ
 thresholds_before_call = 4088
 
 abbrev pub thresholds_before_run : ℕ
 thresholds_before_run = thresholds - 2
 
--- "seeds and rules with a context need at most 1,008 standing"
+-- 01: "seeds and rules with a context need at most 1,008 standing"
 abbrev pub records_before_call : ℕ
 records_before_call = 1008
 

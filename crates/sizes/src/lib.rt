@@ -18,12 +18,12 @@ pub const THRESHOLDS: usize = 4096;
 
 pub const RECORDS: usize = 1024;
 
-// "`constant` and `seed_interval` need at most 4,088 standing"; a run enters two more.
+// 01: "`constant` and `seed_interval` need at most 4,088 standing"; a run enters two more.
 pub const THRESHOLDS_BEFORE_CALL: usize = 4088;
 
 pub const THRESHOLDS_BEFORE_RUN: usize = THRESHOLDS - 2;
 
-// "seeds and rules with a context need at most 1,008 standing".
+// 01: "seeds and rules with a context need at most 1,008 standing".
 pub const RECORDS_BEFORE_CALL: usize = 1008;
 
 // 01, refusal 1: "a name over 64 bytes [..], width over 16, nesting over 64 [..], or a rule over 16 slots, 32 bindings, 32 guards or 16 heads".
@@ -84,7 +84,7 @@ pub const RULE_HEADS: usize = RULE_GUARDS + 4 * GUARDS;
 
 pub const RULE_ROW: usize = RULE_HEADS + 2 * HEADS;
 
-// The other rows.
+// The rows of the other tables.
 
 // A predicate's first argument and arity.
 pub const PREDICATE_ROW: usize = 2;

@@ -65,7 +65,7 @@ replace slot f s = settled slot (value_at s.rows slot) s.rows (f (value_at s.row
 abbrev pub meet_into : List ℕ → ℕ → Value → Metered Stop Slots (Unit {0})
 meet_into constants slot v = replace slot (λ old. meet constants old v)
 
--- the same with a value in hand
+-- the same with a value in hand, which is dropped after the meet
 unfoldable pub meet_owned : List ℕ → ℕ → Value → Metered Stop Slots (Unit {0})
 meet_owned constants slot v = dropping v (meet_into constants slot v)
 
@@ -88,7 +88,7 @@ unfoldable pub tops : ℕ → ℕ → Metered Stop Slots (Unit {0})
 tops k zero = pure tt
 tops k (suc n) = after_unit (putting k (top None)) >> tops (k + 1) n
 
--- "Positive occurrences constrain complete bindings, regardless of join order."
+-- transfer.rs: "Positive occurrences constrain complete bindings, regardless of join order."
 abbrev pub meet_argument : List ℕ → List ℕ → Binding → Metered Stop Slots (Unit {0})
 meet_argument constants arguments (Positive slot argument) = meet_into constants slot (value_at arguments argument)
 meet_argument constants arguments (Assign slot e) = pure tt

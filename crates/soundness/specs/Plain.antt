@@ -1,4 +1,5 @@
--- One firing of the plain run: 01, "The plain run over a store". Rules are fired on single values; nothing here knows of a store or of its tables.
+-- One firing of the plain run: 01, "The plain run over a store", whose sentences are quoted. Rules are fired on single values; nothing here knows of
+-- a store or of its tables.
 use Rattle.std.specs.Prelude.{ℕ, ◌≡◌, Bool, true, false, cond, ◌⊎◌, List, [], ◌∷◌, ℤ, pos, negsuc, neg_ℤ, ◌+ℤ◌, ◌-ℤ◌, ◌*ℤ◌}
 use Rattle.std.proofs.Math.Option.{Option, some, none}
 use Rattle.integers.specs.Order.{Number, Between, number?}
@@ -89,7 +90,7 @@ apply_two o BitAnd a b = o.two BitAnd a b
 apply_two o BitOr a b = o.two BitOr a b
 apply_two o BitXor a b = o.two BitXor a b
 
--- with one value for each slot
+-- the value that a tree has in a firing, with x the value of each slot and ch that of each other choice
 unfoldable pub worth : Opaque → (ℕ → Key) → Choice → Tree → Option Key
 worth o x ch nothing = none
 worth o x ch (constant k) = some k

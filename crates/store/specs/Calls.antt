@@ -23,7 +23,7 @@ unless p r m = λ s. cond (p s) (m s) (stopped (told r) s)
 abbrev pub open? : Store → Bool
 open? s = admits s.phase
 
--- a charge in a call
+-- a charge in a call: the header takes the new counts, and a stop is told as the call's refusal
 abbrev pub billing : {A : Type 0} → Metered Stop Budget A → Metered Told Store A
 billing m = stopping (λ e. told (Limit e)) (zoom (λ s. s.budget) with_budget m)
 

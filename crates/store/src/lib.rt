@@ -85,7 +85,9 @@ impl Phase {
     }
 }
 
-// A store with nothing in it. A width over 16 is refused, and then there is no store.
+// A store with nothing in it, open for calls.
+// Refused by 1, a width over 16; then there is no store, and every call on what is left meets 1.
+// Charges nothing.
 pub fn fresh(limits: Limits) -> (Store, Result<(), Refusal>)
     ensures { replied result.1 result.0 ≡ fresh_of limits }
 {
@@ -112,7 +114,9 @@ pub fn fresh(limits: Limits) -> (Store, Result<(), Refusal>)
 }
 
 impl Store {
-    // The context of all later calls.
+    // Sets the context of all later calls.
+    // Refused by 1, a store that is not open.
+    // Charges nothing.
     #[tactic(auto, unfolding(crate::specs::Calls::context_call))]
     pub fn context(&mut self, context: u32) -> Result<(), Refusal>
         ensures { replied result self.new ≡ context_call context self.old }
@@ -124,7 +128,7 @@ impl Store {
         Ok(())
     }
 
-    // One charge of a call.
+    // One charge of a call, which a refusal hands on.
     pub fn pay(&mut self, resource: Resource, amount: u64) -> Result<(), Refusal>
         ensures { replied result self.new ≡ billing (charge resource amount) self.old }
     {
@@ -141,7 +145,9 @@ impl Store {
         Ok(())
     }
 
-    // The caller's own work.
+    // Counts work of the caller's own.
+    // Refused by 1, a store that is not open; then by 3.
+    // Charges `amount` units of work, at once.
     #[tactic(auto, unfolding(crate::specs::Calls::work_call))]
     pub fn work(&mut self, amount: u64) -> Result<(), Refusal>
         ensures { replied result self.new ≡ work_call amount self.old }
@@ -152,7 +158,9 @@ impl Store {
         self.pay(Resource::Work, amount)
     }
 
-    // The id of an argument.
+    // The id of a predicate's argument.
+    // Refused by 1, a table of another size, a store that is not open; 2, more predicates than the table has; 5, no such predicate, no such position.
+    // Charges nothing.
     #[tactic(auto, unfolding(crate::specs::Calls::argument_call))]
     pub fn argument(
         &self,
@@ -183,7 +191,9 @@ impl Store {
         Ok((start + position) as usize)
     }
 
-    // A new predicate: its id.
+    // A new predicate: its id. Nothing is seeded to its arguments yet.
+    // Refused by 1, tables of other sizes, a store that is not open; 2, no room for it or its arguments; then 3, 6, 7 and once more 3.
+    // Charges a unit of work, then a predicate, `arity` positions and `arity` units of work, of these three all or none.
     #[tactic(auto, unfolding(crate::specs::Calls::predicate_call))]
     pub fn predicate(
         &mut self,

@@ -20,7 +20,7 @@ digits_in (suc most) n = cond (ltb n 10) ((48 + n) ∷ []) (digits_in most (n / 
 unfoldable pub decimal : ℕ → List ℕ
 decimal n = digits_in (suc n) n
 
--- with a minus
+-- the decimal of an integer; one below 0 has a minus in front
 unfoldable pub integer : ℤ → List ℕ
 integer (pos n) = decimal n
 integer (negsuc n) = 45 ∷ decimal (suc n)
@@ -31,7 +31,7 @@ abbrev pub letter : Integrality → List ℕ
 letter Integer = 73 ∷ []
 letter Mixed = 77 ∷ []
 
--- "An empty interval prints `e e`; Unbounded prints its two ends."
+-- 01: "An empty interval prints `e e`; Unbounded prints its two ends."
 abbrev pub end_words : Interval → List (List ℕ)
 end_words Bottom = (101 ∷ []) ∷ (101 ∷ []) ∷ []
 end_words (Bounded low high) = integer low ∷ integer high ∷ []
@@ -40,7 +40,7 @@ end_words Unbounded = integer least32 ∷ integer greatest32 ∷ []
 abbrev pub bound_words : Bound → List (List ℕ)
 bound_words b = letter b.integrality ∷ end_words b.interval
 
--- ---- a list: "`-` for none, else ids in brackets", parted by commas
+-- ---- a list, 01: "`-` for none, else ids in brackets", parted by commas
 
 unfoldable pub others : List ℕ → List ℕ
 others [] = 93 ∷ []

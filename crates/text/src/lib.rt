@@ -53,7 +53,7 @@ pub fn put_wide(line: &mut [u8], at: usize, n: u128) -> usize
     put_byte(line, last, (48 + digit) as u8)
 }
 
-// A space and the decimal.
+// A space and the decimal of a number of 64 bits.
 pub fn put_number(line: &mut [u8], at: usize, n: u64) -> usize
     requires { at + 21 ≤ length line.old }
     ensures puts { Puts (32 ∷ decimal n) at line.old result line.new }
@@ -144,7 +144,7 @@ fn put_others(line: &mut [u8], at: usize, ids: &[u16]) -> usize
     put_byte(line, place, b']')
 }
 
-// Ids in brackets.
+// The ids of a list in brackets, parted by commas.
 fn put_ids(line: &mut [u8], at: usize, ids: &[u16]) -> usize
     requires { (at + 97 ≤ length line.old) × (length ids.now ≤ 16) }
     ensures puts { Puts (bracketed ids.now) at line.old result line.new }

@@ -29,7 +29,7 @@ against t v i = compareℤ (get_or t i (pos 0)) v
 unfoldable pub seek_number : List ℤ → ℕ → ℤ → Metered Stop Meter Place
 seek_number t count v = seek (against t v) count 0 count
 
--- what is charged alone
+-- a charge, which leaves the table and its count
 abbrev pub paying : {A : Type 0} → Metered Stop Budget A → Metered Stop Entry A
 paying = zoom (λ s. s.budget) (λ b s. entry b s.count s.table)
 

@@ -8,7 +8,7 @@ ghost use Rattle.thresholds.specs.Thresholds.{entry, seek_number, cost, enter, a
 
 use limits::{Budget, Meter, Resource, Stop};
 
-// Among the first `count` cells.
+// The place of a number among the first `count` cells, or where it would stand.
 fn seek_number(
     table: &[i32],
     count: usize,
@@ -50,7 +50,7 @@ pub fn enter(
     Ok(())
 }
 
-// A number, if there is one.
+// A neighbour is entered where it fits 32 bits.
 fn enter_some(
     table: &mut [i32],
     count: &mut usize,

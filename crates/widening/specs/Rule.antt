@@ -21,7 +21,7 @@ pub data Which : Type 0 where
   lower : Which
   upper : Which
 
--- z is at an end or beyond it
+-- z is at an end, or on the far side of it
 abbrev pub AtOrBeyond : Which → ℤ → ℤ → Type 0
 AtOrBeyond lower end z = Le z end
 AtOrBeyond upper end z = Le end z

@@ -28,11 +28,11 @@ unfoldable pub nearest : (ℤ → Bool) → ℤ → List ℤ → Metered Stop Me
 nearest beyond end [] = pure end
 nearest beyond end (t ∷ l) = work 1 >> cond (beyond t) (pure t) (nearest beyond end l)
 
--- sought from the top
+-- the greatest threshold that is not above the low end, sought from the top
 unfoldable pub below : List ℤ → ℤ → Metered Stop Meter ℤ
 below thresholds low = nearest (λ t. le_z t low) low (reverse thresholds)
 
--- sought from the bottom
+-- the least threshold that is not below the high end, sought from the bottom
 unfoldable pub above : List ℤ → ℤ → Metered Stop Meter ℤ
 above thresholds high = nearest (λ t. le_z high t) high thresholds
 

@@ -138,7 +138,7 @@ fn widen_low(
     Ok(Side { end, grown })
 }
 
-// The high side.
+// The high side, by the same rule.
 fn widen_high(
     thresholds: &[i32],
     old: i32,

@@ -2,7 +2,7 @@
 use Rattle.std.specs.Prelude.{ℕ, zero, suc, ◌+◌, ◌-◌, ◌*◌, ◌^◌, Bool, true, false, cond, ◌&&◌, ◌||◌, not, List, [], ◌∷◌, take, fold, eqb, ltb, leb, ℤ, pos, negsuc, Option, Some, None}
 use Rattle.words.specs.declared.Word.{Word}
 
--- "decimal integers, each with an optional minus, parted by spaces and line feeds"
+-- The job format: "decimal integers, each with an optional minus, parted by spaces and line feeds"
 abbrev pub parts : ℕ → Bool
 parts b = eqb b 32 || eqb b 10
 
@@ -57,7 +57,7 @@ read w l = fold onward (Some w) l
 
 -- ---- a whole word
 
--- a number from 0 to `most`; "`-0` [is] read"
+-- a number from 0 to `most`; the job format: "`-0` [is] read"
 abbrev pub natural : Word → ℕ → Option ℕ
 natural w most = elim w.value [ None ↦ None | Some n ↦ cond (leb n most && (not w.negative || eqb n 0)) (Some n) None ]
 

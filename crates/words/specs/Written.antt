@@ -1,4 +1,4 @@
--- The words that tell a number. "Leading zeros and `-0` are read; `+5` and tabs are not."
+-- The words that tell a number. The job format: "Leading zeros and `-0` are read; `+5` and tabs are not."
 use Rattle.std.specs.Prelude.{ℕ, ◌≡◌, ◌≤◌, ◌⊎◌, Bool, true, false, cond, List, [], ◌∷◌, ◌++◌, replicate, ℤ, Option, Some, None}
 use Rattle.text.specs.Text.{decimal}
 use Rattle.words.specs.declared.Word.{Word}

@@ -45,7 +45,7 @@ fn tens(value: u64, digit: u8) -> Option<u64>
 }
 
 impl Word {
-    // Nothing of a word.
+    // A word of which nothing has been read yet.
     pub fn new() -> Word
         ensures { result ≡ started }
     {
