@@ -3,29 +3,11 @@
 
    drive SEED CALLS */
 #include <inttypes.h>
-#include <stdbool.h>
-#include <stdint.h>
 #include <stdio.h>
 #include <stdlib.h>
 #include <string.h>
 
-/* A slice is its address and its length. */
-#define SLICE(type) type *, size_t
-uint64_t harness_fresh(SLICE(uint64_t));
-uint64_t harness_plain(uint64_t, uint64_t, SLICE(uint64_t));
-uint64_t harness_predicate(uint64_t, uint64_t, uint64_t, SLICE(uint64_t), SLICE(uint32_t), SLICE(uint32_t));
-uint64_t harness_constant(bool, int32_t, SLICE(uint8_t), SLICE(uint64_t), SLICE(uint8_t), SLICE(uint32_t), SLICE(uint32_t), SLICE(int32_t));
-uint64_t harness_expression(uint64_t, uint64_t, uint64_t, uint64_t, SLICE(uint64_t), SLICE(uint64_t));
-uint64_t harness_seed(uint64_t, uint64_t, uint64_t, int32_t, int32_t, SLICE(uint64_t), SLICE(uint32_t), SLICE(uint32_t), SLICE(uint32_t),
-                      SLICE(int32_t));
-uint64_t harness_rule(SLICE(uint64_t), SLICE(uint64_t), SLICE(uint64_t), SLICE(uint32_t), SLICE(uint32_t));
-uint64_t harness_run(SLICE(uint64_t), SLICE(uint64_t), SLICE(uint32_t), SLICE(uint32_t), SLICE(uint32_t), SLICE(int32_t), SLICE(uint32_t),
-                     SLICE(uint32_t), SLICE(uint32_t), SLICE(uint32_t), SLICE(uint32_t));
-uint64_t harness_read(uint64_t, uint64_t, uint64_t, SLICE(uint64_t), SLICE(uint32_t), SLICE(uint32_t));
-uint64_t harness_slot(uint64_t, uint64_t, bool, SLICE(uint64_t), SLICE(uint32_t), SLICE(uint32_t));
-uint64_t harness_key(uint64_t, SLICE(uint64_t), SLICE(uint32_t));
-uint64_t harness_name(uint64_t, SLICE(uint64_t), SLICE(uint8_t), SLICE(uint32_t), uint8_t *);
-uint64_t harness_line(uint64_t, uint64_t, uint64_t, SLICE(uint64_t), SLICE(uint32_t), SLICE(uint32_t), SLICE(uint32_t), SLICE(uint8_t));
+#include "exports.h"
 
 enum { HEADER, PREDICATES, NAMES, CONSTANTS, ORDER, THRESHOLDS, NODES, SEEDS, RECORDS, RULES, ARGUMENTS, SLOTS, CURRENT, GROWTH, SCRATCH, LINE, TABLES };
 static const size_t cells[TABLES] = {34, 128, 65536, 2048, 1024, 4096, 5 * 1024, 24 * 256, 2048, 294 * 256, 24 * 256, 32768,
@@ -120,6 +102,7 @@ static void make_tables(void) {
     }
 }
 
+#define WORDS ((uint64_t *)tables[HEADER].bytes)
 #define U8(t) (tables[t].bytes), tables[t].count
 #define U32(t) ((uint32_t *)tables[t].bytes), tables[t].count
 #define I32(t) ((int32_t *)tables[t].bytes), tables[t].count
@@ -128,10 +111,11 @@ static void make_tables(void) {
 static uint64_t id(void) { return below(3) ? below(8) : number(); }
 
 static uint64_t call_constant(void) {
+    if (below(2)) return service_number(WORDS, U8(NAMES), U32(CONSTANTS), U32(ORDER), I32(THRESHOLDS), signed_number()).code;
     size_t n = below(3) ? below(66) : below(200);
     uint8_t *text = malloc(n ? n : 1);
     for (size_t i = 0; i < n; i++) text[i] = below(2) ? 'a' + below(2) : any();
-    uint64_t answer = harness_constant(below(2), signed_number(), text, n, U64(HEADER), U8(NAMES), U32(CONSTANTS), U32(ORDER), I32(THRESHOLDS));
+    uint64_t answer = service_name(WORDS, U8(NAMES), U32(CONSTANTS), U32(ORDER), I32(THRESHOLDS), text, n).code;
     free(text);
     return answer;
 }
@@ -141,8 +125,21 @@ static uint64_t call_rule(void) {
     for (int i = 0; i < 293; i++) rule[i] = below(5) ? below(4) : number();
     for (int i = 0; i < 5; i++) rule[i] = below(4) ? below(4) : number();
     rule[4] = below(20) ? 0 : number();
-    uint64_t answer = harness_rule(rule, below(50) ? 293 : below(293), U64(HEADER), U64(NODES), U32(RULES), U32(RECORDS));
+    uint64_t answer = service_rule(WORDS, U64(NODES), U32(RULES), U32(RECORDS), rule, below(50) ? 293 : below(293)).code;
     free(rule);
+    return answer;
+}
+
+/* A refused `fresh` leaves the words of no store, on which every call meets 1. */
+static uint64_t call_fresh(void) {
+    uint64_t answer = service_fresh(WORDS).code, *words = WORDS;
+    if (answer != 1) return answer;
+    bool none = words[27] == 0 && service_context(words, 5).code == 1 && service_work(words, 0).code == 1 && service_status(words).reply.code == 1;
+    for (int i = 9; i < 28; i++) none = none && words[i] == 0;
+    if (!none) {
+        printf("a refused fresh left a store\n");
+        exit(1);
+    }
     return answer;
 }
 
@@ -154,26 +151,28 @@ static const char *const names[CALLS] = {"fresh", "context", "work", "predicate"
     "report_line", "line_count"};
 
 static uint64_t call(int which) {
-    uint8_t seen;
+    uint8_t text[64];
     switch (which) {
-    case 0: return harness_fresh(U64(HEADER));
-    case 1: return harness_plain(0, number(), U64(HEADER));
-    case 2: return harness_plain(1, number(), U64(HEADER));
-    case 3: return harness_predicate(0, below(2) ? below(5) : number(), 0, U64(HEADER), U32(PREDICATES), U32(SEEDS));
-    case 4: return harness_predicate(1, id(), id(), U64(HEADER), U32(PREDICATES), U32(SEEDS));
+    case 0: return call_fresh();
+    case 1: return service_context(WORDS, number()).code;
+    case 2: return service_work(WORDS, number()).code;
+    case 3: return service_predicate(WORDS, U32(PREDICATES), U32(SEEDS), below(2) ? below(5) : number()).code;
+    case 4: return service_argument(WORDS, U32(PREDICATES), id(), id()).code;
     case 5: case 6: return call_constant();
-    case 7: return harness_expression(below(6), below(2) ? below(9) : id(), id(), id(), U64(HEADER), U64(NODES));
-    case 8: return harness_seed(0, id(), id(), 0, 0, U64(HEADER), U32(CONSTANTS), U32(SEEDS), U32(RECORDS), I32(THRESHOLDS));
-    case 9: return harness_seed(1, id(), 0, signed_number(), signed_number(), U64(HEADER), U32(CONSTANTS), U32(SEEDS), U32(RECORDS),
-                                I32(THRESHOLDS));
+    case 7: return service_expression(WORDS, U64(NODES), below(6), below(2) ? below(9) : id(), id(), id()).code;
+    case 8: return service_seed_value(WORDS, U32(CONSTANTS), U32(SEEDS), U32(RECORDS), id(), id()).code;
+    case 9: return service_seed_interval(WORDS, U32(SEEDS), U32(RECORDS), I32(THRESHOLDS), id(), signed_number(), signed_number()).code;
     case 10: return call_rule();
-    case 11: return harness_run(U64(HEADER), U64(NODES), U32(CONSTANTS), U32(RULES), U32(SEEDS), I32(THRESHOLDS), U32(ARGUMENTS), U32(SLOTS),
-                               U32(CURRENT), U32(GROWTH), U32(SCRATCH));
-    case 12: case 13: case 14: case 15: return harness_read(which - 12, id(), id(), U64(HEADER), U32(ARGUMENTS), U32(RECORDS));
-    case 16: return harness_slot(id(), id(), below(2), U64(HEADER), U32(RULES), U32(SLOTS));
-    case 17: return harness_key(id(), U64(HEADER), U32(CONSTANTS));
-    case 18: case 19: return harness_name(id(), U64(HEADER), U8(NAMES), U32(CONSTANTS), &seen);
-    default: return harness_line(which - 20, id(), id(), U64(HEADER), U32(ARGUMENTS), U32(RULES), U32(SLOTS), U8(LINE));
+    case 11: return service_run(WORDS, U64(NODES), U32(CONSTANTS), U32(RULES), U32(SEEDS), I32(THRESHOLDS), U32(ARGUMENTS), U32(SLOTS), U32(CURRENT),
+                                U32(GROWTH), U32(SCRATCH)).code;
+    case 12: return service_read_argument(WORDS, U32(ARGUMENTS), id()).bound.reply.code;
+    case 13: return service_context_count(WORDS, U32(RECORDS), id()).code;
+    case 14: return service_read_context(WORDS, U32(RECORDS), id(), id()).code;
+    case 15: return service_status(WORDS).reply.code;
+    case 16: return service_read_slot(WORDS, U32(RULES), U32(SLOTS), id(), id(), below(2)).reply.code;
+    case 17: return service_read_key(WORDS, U32(CONSTANTS), id()).reply.code;
+    case 18: case 19: return service_read_name(WORDS, U8(NAMES), U32(CONSTANTS), id(), text).code;
+    default: return service_line(WORDS, U32(ARGUMENTS), U32(RULES), U32(SLOTS), U8(LINE), which - 20, id(), id()).code;
     }
 }
 

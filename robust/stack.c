@@ -4,26 +4,12 @@
    stack BYTES */
 #include <inttypes.h>
 #include <pthread.h>
-#include <stdbool.h>
-#include <stdint.h>
 #include <stdio.h>
 #include <stdlib.h>
 #include <string.h>
 #include <sys/mman.h>
 
-#define SLICE(type) type *, size_t
-uint64_t harness_fresh(SLICE(uint64_t));
-uint64_t harness_plain(uint64_t, uint64_t, SLICE(uint64_t));
-uint64_t harness_predicate(uint64_t, uint64_t, uint64_t, SLICE(uint64_t), SLICE(uint32_t), SLICE(uint32_t));
-uint64_t harness_constant(bool, int32_t, SLICE(uint8_t), SLICE(uint64_t), SLICE(uint8_t), SLICE(uint32_t), SLICE(uint32_t), SLICE(int32_t));
-uint64_t harness_expression(uint64_t, uint64_t, uint64_t, uint64_t, SLICE(uint64_t), SLICE(uint64_t));
-uint64_t harness_seed(uint64_t, uint64_t, uint64_t, int32_t, int32_t, SLICE(uint64_t), SLICE(uint32_t), SLICE(uint32_t), SLICE(uint32_t),
-                      SLICE(int32_t));
-uint64_t harness_rule(SLICE(uint64_t), SLICE(uint64_t), SLICE(uint64_t), SLICE(uint32_t), SLICE(uint32_t));
-uint64_t harness_run(SLICE(uint64_t), SLICE(uint64_t), SLICE(uint32_t), SLICE(uint32_t), SLICE(uint32_t), SLICE(int32_t), SLICE(uint32_t),
-                     SLICE(uint32_t), SLICE(uint32_t), SLICE(uint32_t), SLICE(uint32_t));
-uint64_t harness_read(uint64_t, uint64_t, uint64_t, SLICE(uint64_t), SLICE(uint32_t), SLICE(uint32_t));
-uint64_t harness_line(uint64_t, uint64_t, uint64_t, SLICE(uint64_t), SLICE(uint32_t), SLICE(uint32_t), SLICE(uint32_t), SLICE(uint8_t));
+#include "exports.h"
 
 static uint64_t header[34], nodes[5 * 1024];
 static uint32_t predicates[128], constants[2048], order[1024], seeds[24 * 256], records[2048], rules[294 * 256], arguments[24 * 256], slots[32768],
@@ -46,16 +32,16 @@ static size_t depth(void) {
     return size - i;
 }
 
-static void ok(uint64_t answer) {
-    if (answer) {
-        printf("%s: refused with %" PRIu64 "\n", part, answer);
+static void ok(Reply answer) {
+    if (answer.code) {
+        printf("%s: refused with %" PRIu64 "\n", part, answer.code);
         exit(1);
     }
 }
 
 static uint64_t expression(uint64_t kind, uint64_t a, uint64_t b, uint64_t c) {
     uint64_t id = header[EXPRESSIONS];
-    ok(harness_expression(kind, a, b, c, T(header), T(nodes)));
+    ok(service_expression(header, T(nodes), kind, a, b, c));
     return header[EXPRESSIONS] > id ? id : id - 1;
 }
 
@@ -89,7 +75,7 @@ static void rule(uint64_t slot_count, const uint64_t towers[4]) {
         guard[3] = towers[(i + 1) % 4];
     }
     for (int i = 0; i < 16; i++) words[261 + 2 * i] = i, words[262 + 2 * i] = towers[i % 4];
-    ok(harness_rule(T(words), T(header), T(nodes), T(rules), T(records)));
+    ok(service_rule(header, T(nodes), T(rules), T(records), T(words)));
 }
 
 static void report(void) {
@@ -97,10 +83,13 @@ static void report(void) {
         for (uint64_t id = 0; id < 256; id++) {
             if ((which == 0 || which == 4) && id) break;
             for (uint64_t slot = 0; slot < (which == 2 || which == 3 ? 16 : 1); slot++)
-                ok(harness_line(which, id, slot, T(header), T(arguments), T(rules), T(slots), T(line)));
+                ok(service_line(header, T(arguments), T(rules), T(slots), T(line), which, id, slot));
         }
-    for (uint64_t call = 0; call < 4; call++)
-        for (uint64_t id = 0; id < 256; id++) ok(harness_read(call == 2 ? 0 : call, id, 0, T(header), T(arguments), T(records)));
+    for (uint64_t id = 0; id < 256; id++) {
+        ok(service_read_argument(header, T(arguments), id).bound.reply);
+        ok(service_context_count(header, T(records), id));
+    }
+    ok(service_status(header).reply);
 }
 
 static void *job(void *unused) {
@@ -109,22 +98,22 @@ static void *job(void *unused) {
     memset(header, 0, sizeof header);
     for (int i = 0; i < 9; i++) header[i] = UINT64_MAX;
     header[4] = 16;
-    ok(harness_fresh(T(header)));
-    for (int i = 0; i < 16; i++) ok(harness_predicate(0, 16, 0, T(header), T(predicates), T(seeds)));
+    ok(service_fresh(header));
+    for (int i = 0; i < 16; i++) ok(service_predicate(header, T(predicates), T(seeds), 16));
     uint8_t text[64];
     memset(text, 'x', sizeof text);
-    for (int i = 0; i < 40; i++) ok(harness_constant(false, 17 * i - 300, T(text), T(header), T(names), T(constants), T(order), T(thresholds)));
-    ok(harness_constant(true, 0, T(text), T(header), T(names), T(constants), T(order), T(thresholds)));
+    for (int i = 0; i < 40; i++) ok(service_number(header, T(names), T(constants), T(order), T(thresholds), 17 * i - 300));
+    ok(service_name(header, T(names), T(constants), T(order), T(thresholds), T(text)));
     for (uint64_t a = 0; a < 256; a++)
-        for (uint64_t k = 0; k < 3; k++) ok(harness_seed(0, a, (a + 7 * k) % 41, 0, 0, T(header), T(constants), T(seeds), T(records), T(thresholds)));
-    ok(harness_seed(1, 5, 0, -3, 90, T(header), T(constants), T(seeds), T(records), T(thresholds)));
+        for (uint64_t k = 0; k < 3; k++) ok(service_seed_value(header, T(constants), T(seeds), T(records), a, (a + 7 * k) % 41));
+    ok(service_seed_interval(header, T(seeds), T(records), T(thresholds), 5, -3, 90));
     uint64_t slot = expression(1, 3, 0, 0), literal = expression(0, 20, 0, 0), towers[4];
     for (int shape = 0; shape < 4; shape++) towers[shape] = tower(shape, slot, literal);
     for (int i = 0; i < 256; i++) rule(16, towers);
     used[0] = depth();
     part = "run";
     memset(scratch, 0xff, sizeof scratch);
-    ok(harness_run(T(header), T(nodes), T(constants), T(rules), T(seeds), T(thresholds), T(arguments), T(slots), T(current), T(growth), T(scratch)));
+    ok(service_run(header, T(nodes), T(constants), T(rules), T(seeds), T(thresholds), T(arguments), T(slots), T(current), T(growth), T(scratch)));
     used[1] = depth();
     part = "report";
     if (header[PHASE] == 2) report();

@@ -28,6 +28,7 @@ use Rattle.thresholds.specs.Thresholds.{Entry, around}
 use Rattle.keys.specs.Key.{Key, number, name, put_cells, probe, seek_key}
 use Rattle.store.specs.declared.Counts.{Counts}
 use Rattle.store.specs.declared.Store.{Store}
+use Rattle.store.specs.declared.Kind.TheVariants.{Feeding}
 use Rattle.store.specs.Store.{admits, with_budget, with_constants}
 use Rattle.store.specs.Calls.{billing, Marks, marks, entering}
 use Rattle.store.proofs.CodeLaws.{charged_counts}
@@ -148,11 +149,11 @@ wider (Err y) w n c o t = refl
 pub record Passed (k : Key) (s : Store) (n c o : List ℕ) (t : List ℤ) : Type 0 where
   pub sized : sized (length n) (length c) (length o) (length t) ≡ true
   pub short : leb (length (bytes_of k)) 64 ≡ true
-  pub opened : admits s.phase ≡ true
+  pub opened : admits Feeding s.phase ≡ true
   pub room : spacious s.counts ≡ true
 
 pub passed : (k : Key) (s : Store) (n c o : List ℕ) (t : List ℤ) {measured opened room : Bool} {text : List ℕ} → measured ≡ sized (length n) (length c) (length o) (length t) → measured ≡ true →
-    text ≡ bytes_of k → length text ≤ 64 → opened ≡ admits s.phase → opened ≡ true → room ≡ spacious s.counts → room ≡ true → Passed k s n c o t
+    text ≡ bytes_of k → length text ≤ 64 → opened ≡ admits Feeding s.phase → opened ≡ true → room ≡ spacious s.counts → room ≡ true → Passed k s n c o t
 passed k s n c o t h₁ e₁ h₂ e₂ h₃ e₃ h₄ e₄ = record { sized = sym h₁ ∙ e₁; short = le-leb (length (bytes_of k)) 64 (rw h₂ at e₂); opened = sym h₃ ∙ e₃; room = sym h₄ ∙ e₄ }
 
 module _ {k : Key} {s : Store} {n c o : List ℕ} {t : List ℤ} (g : Passed k s n c o t) where

@@ -34,7 +34,8 @@ use Rattle.keys.proofs.KeyOrder.{total_keys}
 use Rattle.keys.proofs.KeyOrder as keys
 use Rattle.store.specs.declared.Store.{Store}
 use Rattle.store.specs.Store.{with_constants, with_keys}
-use Rattle.store.specs.Calls.{open?, billing, Marks, marks, entering}
+use Rattle.store.specs.Calls.{billing, Marks, marks, entering}
+use Rattle.store.proofs.Opened.{open?}
 use Rattle.store.proofs.Frame.{spent_none, Spends, spends_work, spends_links, spends_bytes, spends_then, spends_metered, Charging, charging_more, Marking, ending_ends, entering_left, Limited, limited, pays}
 use Rattle.constants.specs.Constant.{bytes_of, retains, classify, KeyTables, key_tables, kind_cell, payload_cell, add_key, add_large, cost, settle, keep_key, abandon, retain_key, Tables, tables, in_marks, in_keys, in_header, sized, spacious, constant_call}
 use Rattle.constants.proofs.CodeLaws.{sizes_yes, room_yes}

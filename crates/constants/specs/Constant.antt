@@ -15,9 +15,10 @@ use Rattle.search.specs.Seek.{Place, found, absent}
 use Rattle.thresholds.specs.Thresholds.{around}
 use Rattle.keys.specs.Key.{Key, number, name, put_cells, put_name, seek_key}
 use Rattle.store.specs.declared.Counts.{Counts}
+use Rattle.store.specs.declared.Kind.TheVariants.{Feeding}
 use Rattle.store.specs.declared.Store.{Store}
 use Rattle.store.specs.Store.{with_constants, with_keys}
-use Rattle.store.specs.Calls.{unless, open?, billing, Marks, marks, entering}
+use Rattle.store.specs.Calls.{unless, admitting, billing, Marks, marks, entering}
 
 -- ---- the reader: 01, "The added reader"
 
@@ -124,6 +125,6 @@ unfoldable pub constant_call : Key → Metered Told Tables ℕ
 constant_call k =
     unless (λ t. sized (length t.names) (length t.constants) (length t.order) (length t.thresholds)) Shape
     (unless (λ t. leb (length (bytes_of k)) size.name) Shape
-    (unless (λ t. open? t.header) Closed
+    (admitting Feeding (λ t. t.header)
     (unless (λ t. spacious t.header.counts) Full
     (in_header (billing (work 1)) >> in_marks (classify k) >> in_keys (retain_key k)))))

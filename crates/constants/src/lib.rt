@@ -12,7 +12,7 @@ ghost use Rattle.search.specs.Seek.{absent};
 
 use keys::Key;
 use limits::{Budget, Refusal, Resource, Stop};
-use store::{Counts, Store};
+use store::{Counts, Kind, Store};
 
 // Whether the tables have the sizes of 01.
 fn sized(names: usize, constants: usize, order: usize, thresholds: usize) -> bool
@@ -189,7 +189,7 @@ pub fn constant(
     {
         return Err(Refusal::Shape);
     }
-    if !store.phase.admits() {
+    if !store.phase.admits(Kind::Feeding) {
         return Err(Refusal::Closed);
     }
     if !room(store.counts) {

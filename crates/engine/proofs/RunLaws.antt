@@ -23,6 +23,7 @@ use Rattle.rows.proofs.RowLaws.{length_padded, get_or_padded}
 use Rattle.store.specs.declared.Phase.TheVariants.{Stopped}
 use Rattle.store.specs.declared.Counts.{Counts}
 use Rattle.store.specs.declared.Store.{Store}
+use Rattle.store.specs.declared.Kind.TheVariants.{Running}
 use Rattle.store.specs.Store.{admits}
 use Rattle.sizes.specs.Sizes.{value_row, growth_row}
 use Rattle.rounds.specs.Round.{Given}
@@ -100,7 +101,7 @@ module _ (r : Read) (w : Working) (t : Tables) where
 
 module _ (r : Read) (s : Store) (marks : List ℤ) (arguments slots : List ℕ) (w : Working) {x y v z f : Bool}
     (p : x ≡ sized (length r.nodes) (length r.constants) (length r.rules) (length r.seeds) (length marks)) (a : x ≡ true) (q : y ≡ results_sized (length arguments) (length slots)) (b : y ≡ true)
-    (o : v ≡ working_sized (length w.current) (length w.growth) (length w.scratch)) (l : v ≡ true) (i : z ≡ admits s.phase) (c : z ≡ true) (j : f ≡ spacious s.counts) (e : f ≡ true)
+    (o : v ≡ working_sized (length w.current) (length w.growth) (length w.scratch)) (l : v ≡ true) (i : z ≡ admits Running s.phase) (c : z ≡ true) (j : f ≡ spacious s.counts) (e : f ≡ true)
     (g : Given) (given : g ≡ given_of r s) {t : Tables} (k : t ≡ ran_on g (tables s marks arguments slots)) where
   pub run_on : going tt t ≡ run_call r w (tables s marks arguments slots)
   unfolding run_call

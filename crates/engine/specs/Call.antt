@@ -13,9 +13,10 @@ use Rattle.thresholds.specs.Thresholds.{entry}
 use Rattle.store.specs.declared.Phase.{Phase}
 use Rattle.store.specs.declared.Phase.TheVariants.{Completed, Stopped}
 use Rattle.store.specs.declared.Counts.{Counts}
+use Rattle.store.specs.declared.Kind.TheVariants.{Running}
 use Rattle.store.specs.declared.Store.{Store}
 use Rattle.store.specs.Store.{with_budget, with_thresholds, with_phase}
-use Rattle.store.specs.Calls.{unless, open?}
+use Rattle.store.specs.Calls.{unless, admitting}
 use Rattle.slots.specs.Slots.{blank, total}
 use Rattle.evaluation.specs.Evaluation.{input}
 use Rattle.rounds.specs.Round.{Given, given}
@@ -103,14 +104,16 @@ finished g t (stopped e s) = tables (ended_in (Stopped e t.header.context) s.ent
 unfoldable pub ran_on : Given → Tables → Tables
 ran_on g t = finished g t (begun g t (blank g.positions) (replicate (size.growth_row * g.positions) 0))
 
+-- whether all the tables that it is lent have their sizes
+abbrev pub lent_sized : Read → Working → Tables → Bool
+lent_sized r w t =
+    sized (length r.nodes) (length r.constants) (length r.rules) (length r.seeds) (length t.thresholds)
+    && (results_sized (length t.arguments) (length t.slots) && working_sized (length w.current) (length w.growth) (length w.scratch))
+
 unfoldable pub run_call : Read → Working → Metered Told Tables (Unit {0})
 run_call r w =
-    unless
-    (λ t.
-    sized (length r.nodes) (length r.constants) (length r.rules) (length r.seeds) (length t.thresholds)
-    && (results_sized (length t.arguments) (length t.slots) && working_sized (length w.current) (length w.growth) (length w.scratch)))
-    Shape
-    (unless (λ t. open? t.header) Closed
+    unless (lent_sized r w) Shape
+    (admitting Running (λ t. t.header)
     (unless (λ t. spacious t.header.counts) Full
     (λ t. going tt (ran_on (given_of r t.header) t))))
 

@@ -19,7 +19,7 @@ ghost use Rattle.engine.specs.Lent.{fitting};
 use evaluation::Input;
 use limits::{Budget, Refusal, Resource, Stop};
 use rounds::{Course, Given};
-use store::{Counts, Phase, Store};
+use store::{Counts, Kind, Phase, Store};
 
 // Both ends of 32 bits become thresholds (`complete_thresholds`).
 fn enter_ends(table: &mut [i32], count: &mut usize, budget: &mut Budget) -> Result<(), Stop>
@@ -305,7 +305,7 @@ pub fn run(
     {
         return Err(Refusal::Shape);
     }
-    if !store.phase.admits() {
+    if !store.phase.admits(Kind::Running) {
         return Err(Refusal::Closed);
     }
     if !has_room(&store.counts) {

@@ -31,6 +31,7 @@ use Rattle.nodes.specs.declared.Node.{Node}
 use Rattle.sizes.specs.Sizes.{node_row}
 use Rattle.nodes.specs.Node.{node_of, same_node, node_at, put_node}
 use Rattle.store.specs.declared.Store.{Store}
+use Rattle.store.specs.declared.Kind.TheVariants.{Building}
 use Rattle.store.specs.Store.{admits, with_budget, with_expressions}
 use Rattle.store.specs.Calls.{unless, billing as billed}
 use Rattle.store.proofs.CodeLaws.{charged_counts}
@@ -166,7 +167,7 @@ module _ (e : Expression) (s : Store) (nodes : List ℕ) (m : Meter) {r : Result
 
 -- ---- the call
 
-module _ (e : Expression) (s : Store) (nodes : List ℕ) {t o : Bool} {d : ℕ} (n : length nodes ≡ size.node_cells) (a : t ≡ supported e) (y : t ≡ true) (h : o ≡ admits s.phase) (q : o ≡ true)
+module _ (e : Expression) (s : Store) (nodes : List ℕ) {t o : Bool} {d : ℕ} (n : length nodes ≡ size.node_cells) (a : t ≡ supported e) (y : t ≡ true) (h : o ≡ admits Building s.phase) (q : o ≡ true)
     (g : d ≡ deepest nodes s.counts.expressions e) (k : d < 64) {m : Bool} (f : m ≡ spacious s.counts) (l : m ≡ true) where
   -- what is left after the tests
   tested : expression_call e (tables s nodes) ≡ (paying (work 1) >> unless (λ (t : Tables). valid t.header.counts e) Missing (share e)) (tables s nodes)

@@ -33,7 +33,8 @@ use Rattle.nodes.specs.Node.{node_of, same_node, expression_of, node_at, nesting
 use Rattle.nodes.proofs.NodeLaws.{Below, Undivided, node_back, node_kept, nesting_back, nesting_kept, expression_back, same_node_lem}
 use Rattle.store.specs.declared.Counts.{Counts}
 use Rattle.store.specs.Store.{with_budget, with_expressions}
-use Rattle.store.specs.Calls.{unless, open?}
+use Rattle.store.specs.Calls.{unless}
+use Rattle.store.proofs.Opened.{open?}
 use Rattle.store.proofs.Frame.{Spent, spent_none, spent_more, Spends, spends_work, spends_links, spends_metered}
 use Rattle.expressions.specs.Expression.{ported, supported, child_nesting, nesting, valid, shared, seek_node, older, Tables, tables, paying, add_node, settle, spacious, share, expression_call}
 

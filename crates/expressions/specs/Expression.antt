@@ -18,9 +18,10 @@ use Rattle.nodes.specs.declared.Expression.TheVariants.{Constant, Slot, Unary, A
 use Rattle.nodes.specs.declared.Node.{Node}
 use Rattle.nodes.specs.Node.{node_of, node_at, nesting_at, put_node, same_node}
 use Rattle.store.specs.declared.Counts.{Counts}
+use Rattle.store.specs.declared.Kind.TheVariants.{Building}
 use Rattle.store.specs.declared.Store.{Store}
 use Rattle.store.specs.Store.{with_expressions}
-use Rattle.store.specs.Calls.{unless, open?, billing}
+use Rattle.store.specs.Calls.{unless, admitting, billing}
 
 -- 01, refusal 1: "division or remainder"
 abbrev pub ported : BinaryOp → Bool
@@ -120,7 +121,7 @@ unfoldable pub expression_call : Expression → Metered Told Tables ℕ
 expression_call e =
     unless (λ t. eqb (length t.nodes) size.node_cells) Shape
     (unless (λ t. supported e) Shape
-    (unless (λ t. open? t.header) Closed
+    (admitting Building (λ t. t.header)
     (unless (λ t. leb (nesting t.nodes t.header.counts.expressions e) size.nesting) Shape
     (unless (λ t. spacious t.header.counts) Full
     (paying (work 1) >> unless (λ t. valid t.header.counts e) Missing (share e))))))

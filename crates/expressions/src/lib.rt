@@ -11,7 +11,7 @@ ghost use Rattle.expressions.specs.Expression.{supported, child_nesting, deepest
 
 use limits::{Meter, Refusal, Resource, Stop};
 use nodes::{BinaryOp, Expression, Node};
-use store::{Counts, Store};
+use store::{Counts, Kind, Store};
 
 fn is_supported(value: Expression) -> bool
     ensures { result ≡ supported value }
@@ -163,7 +163,7 @@ pub fn expression(store: &mut Store, nodes: &mut [u64], value: Expression) -> Re
     if nodes.len() != sizes::NODE_CELLS || !is_supported(value) {
         return Err(Refusal::Shape);
     }
-    if !store.phase.admits() {
+    if !store.phase.admits(Kind::Building) {
         return Err(Refusal::Closed);
     }
     if sizes::NESTING as u64 <= deepest(nodes, count, value) {

@@ -17,7 +17,8 @@ use Rattle.limits.specs.Context.{Context}
 use Rattle.std.proofs.Common.{Some}
 use Rattle.store.specs.declared.Store.{Store}
 use Rattle.store.specs.Store.{with_context}
-use Rattle.store.specs.Calls.{open?, arity_of, first_argument, context_call, work_call, argument_call}
+use Rattle.store.specs.Calls.{arity_of, first_argument, context_call, work_call, argument_call}
+use Rattle.store.proofs.Opened.{open?}
 use Rattle.store.proofs.Frame.{spends_work, Charging, Limited, pays}
 use Rattle.constants.specs.Constant.{bytes_of, spacious, constant_call}
 use Rattle.constants.specs.Constant as constants

@@ -25,7 +25,8 @@ use Rattle.limits.specs.Context.{Context}
 use Rattle.store.specs.declared.Phase.TheVariants.{Open, Absent}
 use Rattle.store.specs.declared.Counts.{Counts}
 use Rattle.store.specs.Store.{empty, fresh_of}
-use Rattle.store.specs.Calls.{first_argument, arity_of, open?, argument_call}
+use Rattle.store.specs.Calls.{first_argument, arity_of, argument_call}
+use Rattle.store.proofs.Opened.{open?}
 use Rattle.lattice.specs.Constants.{Retained}
 use Rattle.constants.proofs.Keyed.{Keyed, keyed_none}
 use Rattle.constants.proofs.Keyed as keyed

@@ -25,7 +25,8 @@ use Rattle.limits.specs.Context.{Context}
 use Rattle.std.proofs.Common.{None, Some}
 use Rattle.store.specs.declared.Store.{Store}
 use Rattle.store.specs.Store.{with_budget}
-use Rattle.store.specs.Calls.{open?, billing}
+use Rattle.store.specs.Calls.{billing}
+use Rattle.store.proofs.Opened.{open?}
 use Rattle.provenance.specs.Provenance.{Records, records, record_in, provenance, recordable}
 use Rattle.producers.specs.Producer.{Scope, scope_of, checking, in_store, check_value, check_head, check_heads, check_body, check_rule, in_header, in_records, shapely, sized, spacious, cost, add_rule, rule_call}
 use Rattle.producers.specs.Producer as producers

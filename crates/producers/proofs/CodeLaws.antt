@@ -32,6 +32,7 @@ use Rattle.rules.specs.declared.Rule.{Rule}
 use Rattle.rules.specs.Rule.{heads_of, put_rule}
 use Rattle.integers.proofs.Tests.{and_left, and_right}
 use Rattle.store.specs.declared.Store.{Store}
+use Rattle.store.specs.declared.Kind.TheVariants.{Building}
 use Rattle.store.specs.Store.{admits, with_budget, with_rules}
 use Rattle.store.specs.Calls.{unless, billing}
 use Rattle.store.proofs.CodeLaws.{charged_then_stop, charged_then_on}
@@ -252,7 +253,7 @@ module _ (nodes : List ℕ) (r : Rule) (s : Store) (t : List ℕ) where
   unfolding check_rule
   rule_heads p q = then_on _ (records s t) _ (through_on (λ r. r.header) (λ r s. records s r.table) (λ r s. records s r.table) (λ e. e) _ (records s t) p) q
 
-module _ (nodes : List ℕ) (r : Rule) (s : Store) (rules p : List ℕ) (ea : sized (length nodes) (length rules) (length p) ≡ true) (eb : shapely r ≡ true) (ec : admits s.phase ≡ true) (ed : spacious s ≡ true) where
+module _ (nodes : List ℕ) (r : Rule) (s : Store) (rules p : List ℕ) (ea : sized (length nodes) (length rules) (length p) ≡ true) (eb : shapely r ≡ true) (ec : admits Building s.phase ≡ true) (ed : spacious s ≡ true) where
   pub call_unpaid : {x : Told} {u : Store} → stopped x u ≡ billing (cost r) s → stopped x (tables u rules p) ≡ rule_call nodes r (tables s rules p)
   unfolding rule_call
   call_unpaid h =

@@ -32,7 +32,8 @@ use Rattle.limits.specs.Context.{Context}
 use Rattle.std.proofs.Common.{None, Some}
 use Rattle.store.specs.declared.Store.{Store}
 use Rattle.store.specs.Store.{with_budget, with_rules, with_provenance}
-use Rattle.store.specs.Calls.{open?, billing}
+use Rattle.store.specs.Calls.{billing}
+use Rattle.store.proofs.Opened.{open?}
 use Rattle.store.proofs.Frame.{Spent, spent_none, spent_more, Spends, spends_then, spends_work, spends_links, Charging, charging_none}
 use Rattle.provenance.specs.Provenance.{Records, records, paying, add_record, record_in, provenance, recordable}
 use Rattle.provenance.proofs.Frame.{Recording, recording_none, recording_more, recording_fewer, Unrecorded, provenance_left}

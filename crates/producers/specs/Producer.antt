@@ -20,9 +20,10 @@ use Rattle.rules.specs.declared.Guard.TheVariants.{Compare, Membership}
 use Rattle.rules.specs.declared.Head.{Head}
 use Rattle.rules.specs.declared.Rule.{Rule}
 use Rattle.rules.specs.Rule.{bindings_of, guards_of, heads_of, put_rule}
+use Rattle.store.specs.declared.Kind.TheVariants.{Building}
 use Rattle.store.specs.declared.Store.{Store}
 use Rattle.store.specs.Store.{with_budget, with_rules}
-use Rattle.store.specs.Calls.{unless, open?, billing}
+use Rattle.store.specs.Calls.{unless, admitting, billing}
 use Rattle.provenance.specs.Provenance.{Records, records, provenance, recordable}
 
 -- ---- the scope of a rule: the expressions that stand, and its slots
@@ -150,6 +151,6 @@ unfoldable pub rule_call : List ℕ → Rule → Metered Told Tables ℕ
 rule_call nodes r =
     unless (λ t. sized (length nodes) (length t.rules) (length t.records)) Shape
     (unless (λ t. shapely r) Shape
-    (unless (λ t. open? t.header) Closed
+    (admitting Building (λ t. t.header)
     (unless (λ t. spacious t.header) Full
     (in_header (billing (cost r)) >> in_records (check_rule nodes r) >> add_rule r))))

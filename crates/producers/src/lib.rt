@@ -16,7 +16,7 @@ ghost use Rattle.producers.specs.Scopes.{scope_in};
 use limits::{Meter, Refusal, Resource};
 use nodes::Expression;
 use rules::{Binding, Guard, Head, Rule};
-use store::Store;
+use store::{Kind, Store};
 
 // What a rule is checked against: the expressions and the arguments that stand, and the rule's slots.
 #[derive(Clone, Copy)]
@@ -256,7 +256,7 @@ pub fn rule(
     if !is_sized(nodes.len(), rules.len(), records.len()) || !is_shapely(rule) {
         return Err(Refusal::Shape);
     }
-    if !store.phase.admits() {
+    if !store.phase.admits(Kind::Building) {
         return Err(Refusal::Closed);
     }
     if !has_room(store) {

@@ -20,6 +20,7 @@ use Rattle.limits.proofs.Monad.{then_on, then_stop, through_on, through_stop}
 use Rattle.limits.specs.Context.{Context}
 use Rattle.std.proofs.Common.{None, Some}
 use Rattle.store.specs.declared.Store.{Store}
+use Rattle.store.specs.declared.Kind.TheVariants.{Feeding}
 use Rattle.store.specs.Store.{admits}
 use Rattle.store.specs.Calls.{unless, billing}
 use Rattle.store.proofs.CodeLaws.{charged_counts, charged_context}
@@ -59,7 +60,7 @@ value_steps constants a k =
     (in_records (provenance a) >> in_rows (seed_constant constants a k))
 
 module _ (constants : List ℕ) (a k : ℕ) (s : Store) (t r : List ℕ) where
-  pub value_open : {x : Run Told Tables (Unit {0})} → length constants ≡ size.constant_cells → sized (length t) (length r) ≡ true → admits s.phase ≡ true → s.counts.constants ≤ 1024 → spacious s ≡ true →
+  pub value_open : {x : Run Told Tables (Unit {0})} → length constants ≡ size.constant_cells → sized (length t) (length r) ≡ true → admits Feeding s.phase ≡ true → s.counts.constants ≤ 1024 → spacious s ≡ true →
       x ≡ value_steps constants a k (tables s t r) → x ≡ seed_value_call constants a k (tables s t r)
   unfolding seed_value_call
   value_open n y g l e w = rw (eq-eqb (length constants) size.constant_cells n, y, g, le-leb s.counts.constants 1024 l, e) w
@@ -118,7 +119,7 @@ interval_steps a low high =
     (in_tables (in_records (provenance a)) >> in_ends (seed_ends a low high))
 
 module _ (a : ℕ) (low high : ℤ) (s : Store) (t r : List ℕ) (h : List ℤ) where
-  pub interval_open : {x : Run Told IntervalTables (Unit {0})} → length h ≡ size.thresholds → sized (length t) (length r) ≡ true → admits s.phase ≡ true → s.counts.thresholds ≤ size.thresholds_before_call → spacious s ≡ true →
+  pub interval_open : {x : Run Told IntervalTables (Unit {0})} → length h ≡ size.thresholds → sized (length t) (length r) ≡ true → admits Feeding s.phase ≡ true → s.counts.thresholds ≤ size.thresholds_before_call → spacious s ≡ true →
       x ≡ interval_steps a low high (interval_tables s t r h) → x ≡ seed_interval_call a low high (interval_tables s t r h)
   unfolding seed_interval_call
   interval_open n y g l e w = rw (eq-eqb (length h) size.thresholds n, y, g, le-leb s.counts.thresholds size.thresholds_before_call l, e) w

@@ -39,7 +39,8 @@ use Rattle.limits.specs.Context.{Context}
 use Rattle.std.proofs.Common.{None, Some}
 use Rattle.store.specs.declared.Store.{Store}
 use Rattle.store.specs.Store.{with_budget, with_provenance}
-use Rattle.store.specs.Calls.{open?, billing}
+use Rattle.store.specs.Calls.{billing}
+use Rattle.store.proofs.Opened.{open?}
 use Rattle.store.proofs.Frame.{Spent, spends_work, spends_links}
 use Rattle.provenance.specs.Provenance.{records, record_in, provenance, recordable}
 use Rattle.seeds.specs.Seed.{dropped, joined, rows, seed, constant_value, seed_constant, sized, spacious, Tables, tables, in_records, in_rows, seed_value_call}

@@ -30,7 +30,8 @@ use Rattle.rows.specs.Row.{value_at}
 use Rattle.std.proofs.Common.{None}
 use Rattle.store.specs.declared.Store.{Store}
 use Rattle.store.specs.Store.{with_budget}
-use Rattle.store.specs.Calls.{open?, billing, Marks, marks, entering}
+use Rattle.store.specs.Calls.{billing, Marks, marks, entering}
+use Rattle.store.proofs.Opened.{open?}
 use Rattle.store.proofs.Frame.{Spent, spends_work, Marking, entering_left, ending_ends}
 use Rattle.thresholds.specs.Thresholds.{Entry, entry, around}
 use Rattle.thresholds.proofs.Sorted.{Rises, Has, Kept, Near, Surrounded, around_keeps}

@@ -22,7 +22,8 @@ use Rattle.sizes.specs.Sizes.{value_row}
 use Rattle.rows.specs.Row.{value_at}
 use Rattle.store.specs.declared.Store.{Store}
 use Rattle.store.specs.Store.{with_budget, with_predicate}
-use Rattle.store.specs.Calls.{open?, billing, declared, room_for, add_predicate, predicate_call}
+use Rattle.store.specs.Calls.{billing, declared, room_for, add_predicate, predicate_call}
+use Rattle.store.proofs.Opened.{open?}
 use Rattle.store.specs.Calls as store
 use Rattle.store.proofs.CodeLaws.{room_yes}
 use Rattle.seeds.proofs.Seeded.{bottoms_length, bottoms_old, bottoms_new, seeded_bottoms, live_bottoms, lost_bottoms}

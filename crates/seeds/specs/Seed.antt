@@ -15,8 +15,9 @@ use Rattle.lattice.specs.Constants.{constant_at}
 use Rattle.lattice.specs.Lattice.{constant, numeric, join, loses}
 use Rattle.rows.specs.Row.{entries_of, value_at, put}
 use Rattle.thresholds.specs.Thresholds.{around}
+use Rattle.store.specs.declared.Kind.TheVariants.{Feeding}
 use Rattle.store.specs.declared.Store.{Store}
-use Rattle.store.specs.Calls.{unless, open?, billing, Marks, marks, entering}
+use Rattle.store.specs.Calls.{unless, admitting, billing, Marks, marks, entering}
 use Rattle.provenance.specs.Provenance.{Records, records, provenance, recordable}
 
 -- ---- a seed
@@ -82,7 +83,7 @@ seed_constant constants a k = paying (constant_value constants k) >>= seed a
 unfoldable pub seed_value_call : List ℕ → ℕ → ℕ → Metered Told Tables (Unit {0})
 seed_value_call constants a k =
     unless (λ t. eqb (length constants) size.constant_cells && sized (length t.seeds) (length t.records)) Shape
-    (unless (λ t. open? t.header) Closed
+    (admitting Feeding (λ t. t.header)
     (unless (λ t. leb t.header.counts.constants size.constants && spacious t.header) Full
     (in_header (billing (work 1)) >>
     unless (λ t. ltb k t.header.counts.constants) Missing
@@ -128,7 +129,7 @@ in_ends = zoom (λ t. ends t.header t.seeds t.thresholds) (λ e t. interval_tabl
 unfoldable pub seed_interval_call : ℕ → ℤ → ℤ → Metered Told IntervalTables (Unit {0})
 seed_interval_call a low high =
     unless (λ t. eqb (length t.thresholds) size.thresholds && sized (length t.seeds) (length t.records)) Shape
-    (unless (λ t. open? t.header) Closed
+    (admitting Feeding (λ t. t.header)
     (unless (λ t. leb t.header.counts.thresholds size.thresholds_before_call && spacious t.header) Full
     (in_tables (in_header (billing (work 1))) >>
     unless (λ t. le_z low high) Descending

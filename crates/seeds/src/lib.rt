@@ -13,7 +13,7 @@ ghost use Rattle.seeds.specs.Seed.{dropped, joined, rows, seed, constant_value, 
 use interval::Interval;
 use lattice::Abstract;
 use limits::{Budget, Refusal, Resource, Stop};
-use store::Store;
+use store::{Kind, Store};
 
 // What is left after a join: the old seed and the value are dropped.
 fn drop_both(old: Abstract, value: Abstract, new: Abstract, budget: &mut Budget)
@@ -111,7 +111,7 @@ pub fn seed_value(
     if constants.len() != sizes::CONSTANT_CELLS || !is_sized(seeds.len(), records.len()) {
         return Err(Refusal::Shape);
     }
-    if !store.phase.admits() {
+    if !store.phase.admits(Kind::Feeding) {
         return Err(Refusal::Closed);
     }
     if sizes::CONSTANTS < store.counts.constants || !has_room(store) {
@@ -169,7 +169,7 @@ pub fn seed_interval(
     if thresholds.len() != sizes::THRESHOLDS || !is_sized(seeds.len(), records.len()) {
         return Err(Refusal::Shape);
     }
-    if !store.phase.admits() {
+    if !store.phase.admits(Kind::Feeding) {
         return Err(Refusal::Closed);
     }
     if sizes::THRESHOLDS_BEFORE_CALL < store.counts.thresholds || !has_room(store) {

@@ -7,7 +7,8 @@ use mathlib.Core.Bool.{true, false, ◌&&◌}
 use lib.Dec.{eqb, leb}
 use lib.ListN.{length}
 use Rattle.limits.proofs.Ends.{Ends, stops, ends_test}
-use Rattle.store.specs.Calls.{open?, context_call, work_call, argument_call, predicate_call}
+use Rattle.store.specs.Calls.{context_call, work_call, argument_call, predicate_call}
+use Rattle.store.proofs.Opened.{open?}
 use Rattle.constants.specs.Constant.{bytes_of, constant_call}
 use Rattle.constants.specs.Constant as constants
 use Rattle.expressions.specs.Expression.{supported, expression_call}

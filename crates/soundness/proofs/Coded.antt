@@ -105,8 +105,8 @@ exchanges_echo {s} (other {x = x} {y = y} {c = c} {a = a} {es = es} f e r xs) t 
 
 -- demand 3, for every list of raw states whose neighbours are as the entry points ensure
 pub sound_code : Demand3Code
-sound_code o l made f s lent es x typed fs a k reached v m =
-    let h : made.0 ≡ header_of (fresh_of l) = header made.0 made.1 ∙ ap header_of f in
+sound_code o l _ _ (code.fresh r₀ h₀ f) s lent es x typed fs a k reached v m =
+    let h : h₀ ≡ header_of (fresh_of l) = header h₀ r₀ ∙ ap header_of f in
     echoes_sound o l s lent es
     (exchanges_echo x typed (accepted [] [] [] []) (fresh l (mend s)) (subst (λ (u : Store). Beside (leaves s (with_header u s.tables)) (fresh l (mend s))) (sym h) (mend_beside s l))) fs a k reached v m
   where

@@ -5,7 +5,8 @@ use lib.Dec.{eqb, leb, ltb}
 use lib.ListN.{length}
 use Rattle.limits.proofs.Ends.{Ends, completes, stops, ends_as, ends_test, ends_pure}
 use Rattle.store.specs.declared.Store.{Store}
-use Rattle.store.specs.Calls.{open?, arity_of, context_call, work_call, argument_call, predicate_call}
+use Rattle.store.specs.Calls.{arity_of, context_call, work_call, argument_call, predicate_call}
+use Rattle.store.proofs.Opened.{open?}
 use Rattle.store.proofs.Frame.{pays, spends_work}
 use Rattle.constants.specs.Constant.{constant_call}
 use Rattle.constants.proofs.Kept as kept

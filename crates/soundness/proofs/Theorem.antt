@@ -25,8 +25,9 @@ use Rattle.keys.specs.Key as keys
 use Rattle.store.specs.declared.Phase.{Phase}
 use Rattle.store.specs.declared.Phase.TheVariants.{Absent, Open, Completed, Stopped}
 use Rattle.store.specs.declared.Store.{Store}
+use Rattle.store.specs.declared.Kind.TheVariants.{Running}
 use Rattle.store.specs.Store.{admits, empty, fresh_of}
-use Rattle.store.specs.Calls.{open?}
+use Rattle.store.proofs.Opened.{open?}
 use Rattle.engine.specs.Call.{Working, read, sized, results_sized, working_sized, spacious, given_of, ran_on, run_call}
 use Rattle.engine.specs.Call as engine
 use Rattle.input.specs.Input as input
@@ -71,7 +72,7 @@ pub data Stands (p : Accepted) (s : State) : Type 0 where
   building : s.tables.header.phase ≡ Open → Tied p s.tables → Stands p s
   complete : s.tables.header.phase ≡ Completed → ((o : Opaque) (fs : List Firing) (a : ℕ) (k : Key) → Reaches o p fs a k → Inside p s.tables s.arguments a k) → Stands p s
   -- there is none, or its run was stopped
-  without : admits s.tables.header.phase ≡ false → (s.tables.header.phase ≡ Completed → ⊥) → Stands p s
+  without : admits Running s.tables.header.phase ≡ false → (s.tables.header.phase ≡ Completed → ⊥) → Stands p s
 
 -- ---- a reading
 
@@ -105,7 +106,7 @@ pub record Idle (p : Accepted) (c : Call) (s : State) : Type 0 where
   pub after : (step c s).after ≡ s
   pub said : learned p c (step c s).answer ≡ p
 
-module _ (p : Accepted) (s : State) (shut : admits s.tables.header.phase ≡ false) where
+module _ (p : Accepted) (s : State) (shut : admits Running s.tables.header.phase ≡ false) where
   never : open? s.tables.header ≡ true → ⊥
   never h = let e : true ≡ false = sym h ∙ shut in let z : ◌≡◌ {A = ℕ} 0 1 = cc in omega arith
 

@@ -45,7 +45,8 @@ use Rattle.rules.specs.declared.Guard.TheVariants.{Compare, Membership}
 use Rattle.rules.specs.declared.Head.{Head}
 use Rattle.rules.specs.Read.{bindings_at, guards_at, heads_at}
 use Rattle.store.specs.declared.Store.{Store}
-use Rattle.store.specs.Calls.{unless, open?, billing, Marks}
+use Rattle.store.specs.Calls.{unless, billing, Marks}
+use Rattle.store.proofs.Opened.{open?}
 use Rattle.constants.specs.Constant.{bytes_of, kind_cell, payload_cell, retains, classify, KeyTables, settle, keep_key, abandon, retain_key, add_key, add_large, in_marks, in_keys, sized, spacious, constant_call}
 use Rattle.constants.specs.Constant as constants
 use Rattle.constants.proofs.Kept.{Numbered, again, newly}

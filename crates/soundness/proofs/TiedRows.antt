@@ -41,7 +41,8 @@ use Rattle.keys.specs.Key as keys
 use Rattle.store.specs.declared.Counts.{Counts}
 use Rattle.store.specs.declared.Store.{Store}
 use Rattle.store.specs.Store.{with_budget, with_thresholds}
-use Rattle.store.specs.Calls.{open?, billing, Marks, marks, entering, first_argument, arity_of, context_call, work_call, argument_call, predicate_call}
+use Rattle.store.specs.Calls.{billing, Marks, marks, entering, first_argument, arity_of, context_call, work_call, argument_call, predicate_call}
+use Rattle.store.proofs.Opened.{open?}
 use Rattle.store.specs.Calls as store
 use Rattle.store.proofs.Frame.{spends_work, pays}
 use Rattle.thresholds.specs.Thresholds.{entry, around}

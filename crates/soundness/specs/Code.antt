@@ -1,6 +1,6 @@
--- Demand 3 for the code. A raw state is the header that was handed back last, and what stands in the lent slices. Each case below is the `ensures`
--- of one entry point, word for word: the header and a slice of the state stand for `x.old` or `x.now`, and a variable for `x.new`. What an entry
--- point is not lent as `&mut` stays as it was.
+-- Demand 3 for the code. A raw state is the header that was handed back last, and what stands in the lent slices. Each case below is what one entry
+-- point ensures: the header and a slice of the state stand for `x.old` or `x.now`, and a variable for `x.new`. What an entry point is not lent as
+-- `&mut` stays as it was. The functions of crate `service` call the entry points, and `Begins` and `Exchange` are what they ensure.
 use Rattle.std.specs.Prelude.{ℕ, ◌≡◌, Bool, false, ℤ, Result, Ok, Err}
 use Rattle.std.specs.Borrow.{Bor}
 use mathlib.Core.List.{List, [], ◌∷◌, Memᴰ}
@@ -56,6 +56,11 @@ done_tells r = tells (λ _. calls.reply input.done) r
 
 abbrev pub id_tells : Result ℕ Refusal → calls.Answer
 id_tells r = tells (λ i. calls.reply (input.id i)) r
+
+-- ---- `fresh`: what it answers, and the header that it hands back
+
+pub data Begins (l : Limits) : calls.Answer → Store → Type 0 where
+  fresh : (r : Result (Unit {0}) Refusal) (header' : Store) → replied r header' ≡ fresh_of l → Begins l (done_tells r) header'
 
 -- ---- one reading of the code: what is asked, and what it answers; it leaves everything as it was
 
@@ -123,5 +128,5 @@ pub data Exchanges : State → List Event → Type 0 where
 
 abbrev pub Demand3Code : Type 0
 Demand3Code =
-    (o : Opaque) (l : Limits) (made : Store × Result (Unit {0}) Refusal) → replied made.1 made.0 ≡ fresh_of l → (s : State) → Lent s.tables → (es : List Event) → Exchanges (leaves s (with_header made.0 s.tables)) es →
+    (o : Opaque) (l : Limits) (a₀ : calls.Answer) (header₀ : Store) → Begins l a₀ header₀ → (s : State) → Lent s.tables → (es : List Event) → Exchanges (leaves s (with_header header₀ s.tables)) es →
     All (λ e. Typed e.call) es → (fs : List Firing) (a : ℕ) (k : Key) → Reaches o (heard es) fs a k → (v : Value) → Memᴰ (event (calls.reading (asks.argument a)) (calls.shows (asks.value v))) es → LiesIn (heard es) k v

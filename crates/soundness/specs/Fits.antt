@@ -5,11 +5,11 @@ use Rattle.sizes.specs.Sizes as size
 use Rattle.constants.specs.Constant as constants
 use Rattle.seeds.specs.Seed as seeds
 use Rattle.producers.specs.Producer as producers
-use Rattle.engine.specs.Call.{Working, sized, results_sized, working_sized}
+use Rattle.engine.specs.Call.{Working, read, lent_sized}
 use Rattle.input.specs.Input.{Tables}
 use Rattle.input.specs.Input as input
 use Rattle.numeric.specs.Question.{Question, argument, context_count, context, slot, key, name, status}
-use Rattle.numeric.specs.Step.{Call, store, run, reading, State}
+use Rattle.numeric.specs.Step.{Call, store, run, reading, State, for_run}
 
 abbrev pub fits_store : input.Call → Tables → Bool
 fits_store (input.context c) t = true
@@ -23,9 +23,7 @@ fits_store (input.seed_interval a low high) t = eqb (length t.thresholds) size.t
 fits_store (input.rule r) t = producers.sized (length t.nodes) (length t.rules) (length t.records)
 
 abbrev pub fits_run : Working → State → Bool
-fits_run w s =
-    sized (length s.tables.nodes) (length s.tables.constants) (length s.tables.rules) (length s.tables.seeds) (length s.tables.thresholds)
-    && (results_sized (length s.arguments) (length s.slots) && working_sized (length w.current) (length w.growth) (length w.scratch))
+fits_run w s = lent_sized (read s.tables.nodes s.tables.constants s.tables.rules s.tables.seeds) w (for_run s)
 
 abbrev pub fits_reading : Question → State → Bool
 fits_reading (argument a) s = eqb (length s.arguments) size.argument_cells

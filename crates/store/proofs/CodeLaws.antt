@@ -24,6 +24,7 @@ use Rattle.lattice.specs.Value.{Value}
 use Rattle.lattice.specs.Lattice.{bottom}
 use Rattle.rows.specs.Row.{put}
 use Rattle.store.specs.declared.Store.{Store}
+use Rattle.store.specs.declared.Kind.TheVariants.{Building}
 use Rattle.store.specs.Store.{admits, with_budget, with_thresholds, with_predicate}
 use Rattle.store.specs.Calls.{unless, billing, marks, entering, declared, bottoms, room_for, tables, predicate_call, first_argument, arity_of, argument_call}
 
@@ -100,7 +101,7 @@ bottoms_none seeds from = refl
 
 -- ---- an argument
 
-module _ (p i : ℕ) (rows : List ℕ) (s : Store) (n : length rows ≡ size.predicate_cells) {t : Bool} (h : t ≡ admits s.phase) (o : t ≡ true) (e : s.counts.predicates ≤ 64) (f : p < s.counts.predicates) where
+module _ (p i : ℕ) (rows : List ℕ) (s : Store) (n : length rows ≡ size.predicate_cells) {t : Bool} (h : t ≡ admits Building s.phase) (o : t ≡ true) (e : s.counts.predicates ≤ 64) (f : p < s.counts.predicates) where
   pub argument_id : {arity first : ℕ} → arity ≡ arity_of rows p → i < arity → first ≡ first_argument rows p → going (first + i) s ≡ argument_call p i rows s
   unfolding argument_call pure
   argument_id {arity} a g q = rw (eq-eqb (length rows) size.predicate_cells n, ← h, o, le-leb s.counts.predicates 64 e, lt-ltb p s.counts.predicates f, ← a, lt-ltb i arity g, q)
@@ -130,7 +131,7 @@ module _ (m : Metered Stop Budget (Unit {0})) (s : Store) {t : Store} (h : going
 
 module _ (arity : ℕ) (s : Store) (rows seeds : List ℕ) where
   module _ (n : length rows ≡ size.predicate_cells) where
-    module _ (k : length seeds ≡ size.argument_cells) {t : Bool} (h : t ≡ admits s.phase) where
+    module _ (k : length seeds ≡ size.argument_cells) {t : Bool} (h : t ≡ admits Building s.phase) where
       module _ (o : t ≡ true) {f : Bool} (q : f ≡ room_for s.counts.predicates s.counts.positions arity) where
         module _ (y : f ≡ true) where
           pub predicate_work : (r : Refusal) {u : Store} → stopped (told r) u ≡ billing (work 1) s → stopped (told r) (tables u rows seeds) ≡ predicate_call arity (tables s rows seeds)

@@ -13,6 +13,8 @@ use Rattle.thresholds.specs.Thresholds.{Entry, entry}
 use Rattle.lattice.specs.Lattice.{bottom}
 use Rattle.rows.specs.Row.{put}
 use Rattle.std.specs.Prelude.{Some}
+use Rattle.store.specs.declared.Kind.{Kind}
+use Rattle.store.specs.declared.Kind.TheVariants.{Building}
 use Rattle.store.specs.declared.Store.{Store}
 use Rattle.store.specs.Store.{admits, with_budget, with_context, with_predicate, with_thresholds}
 
@@ -20,8 +22,9 @@ use Rattle.store.specs.Store.{admits, with_budget, with_context, with_predicate,
 abbrev pub unless : {S A : Type 0} → (S → Bool) → Refusal → Metered Told S A → Metered Told S A
 unless p r m = λ s. cond (p s) (m s) (stopped (told r) s)
 
-abbrev pub open? : Store → Bool
-open? s = admits s.phase
+-- a call of a kind, in a store that admits it, else 1
+abbrev pub admitting : {S A : Type 0} → Kind → (S → Store) → Metered Told S A → Metered Told S A
+admitting kind header = unless (λ s. admits kind (header s).phase) Closed
 
 -- a charge in a call: the header takes the new counts, and a stop is told as the call's refusal
 abbrev pub billing : {A : Type 0} → Metered Stop Budget A → Metered Told Store A
@@ -44,10 +47,10 @@ entering m =
 -- ---- calls without tables
 
 unfoldable pub context_call : ℕ → Metered Told Store (Unit {0})
-context_call c = unless open? Closed (λ s. going tt (with_context (Some c) s))
+context_call c = admitting Building (λ s. s) (λ s. going tt (with_context (Some c) s))
 
 unfoldable pub work_call : ℕ → Metered Told Store (Unit {0})
-work_call n = unless open? Closed (billing (work n))
+work_call n = admitting Building (λ s. s) (billing (work n))
 
 -- a row of the predicates' table: the first argument and the arity
 abbrev pub first_argument : List ℕ → ℕ → ℕ
@@ -60,7 +63,7 @@ arity_of rows p = get_or rows (size.predicate_row * p + 1) 0
 unfoldable pub argument_call : ℕ → ℕ → List ℕ → Metered Told Store ℕ
 argument_call p i rows =
     unless (λ s. eqb (length rows) size.predicate_cells) Shape
-    (unless open? Closed
+    (admitting Building (λ s. s)
     (unless (λ s. leb s.counts.predicates size.predicates) Full
     (unless (λ s. ltb p s.counts.predicates) Missing
     (unless (λ s. ltb i (arity_of rows p)) Missing
@@ -104,6 +107,6 @@ add_predicate arity t =
 unfoldable pub predicate_call : ℕ → Metered Told Tables ℕ
 predicate_call arity =
     unless (λ t. eqb (length t.rows) size.predicate_cells && eqb (length t.seeds) size.argument_cells) Shape
-    (unless (λ t. open? t.header) Closed
+    (admitting Building (λ t. t.header)
     (unless (λ t. room_for t.header.counts.predicates t.header.counts.positions arity) Full
     (in_header (billing (work 1)) >> in_header (billing (declared arity)) >> add_predicate arity)))

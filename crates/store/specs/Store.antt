@@ -10,15 +10,17 @@ use Rattle.limits.specs.Records.{fresh_budget}
 use Rattle.limits.specs.Metered.{Run, going, stopped}
 use Rattle.store.specs.declared.Phase.{Phase}
 use Rattle.store.specs.declared.Phase.TheVariants.{Absent, Open, Completed, Stopped}
+use Rattle.store.specs.declared.Kind.{Kind}
 use Rattle.store.specs.declared.Counts.{Counts}
 use Rattle.store.specs.declared.Store.{Store}
 
--- 01, refusal 1: "A store call or run finds the store closed, or a reading finds it open". Store calls and the run want an open one.
-abbrev pub admits : Phase → Bool
-admits Absent = false
-admits Open = true
-admits Completed = false
-admits (Stopped s c) = false
+-- 01, refusal 1: "A store call or run finds the store closed, or a reading finds it open". Store calls and the run want an open one, of whatever
+-- kind they are.
+abbrev pub admits : Kind → Phase → Bool
+admits kind Absent = false
+admits kind Open = true
+admits kind Completed = false
+admits kind (Stopped s c) = false
 
 abbrev pub counts : ℕ → ℕ → ℕ → ℕ → ℕ → ℕ → ℕ → ℕ → Counts
 counts p a c k e r t n = record { predicates = p; positions = a; constants = c; keys = k; expressions = e; rules = r; thresholds = t; provenance = n }

@@ -23,6 +23,14 @@ pub enum Phase {
     Stopped(Stop, Option<u32>),
 }
 
+// Calls by what they do to a store: they build it, they feed it constants and seeds, or they run it.
+#[derive(Clone, Copy, Debug, PartialEq, Eq)]
+pub enum Kind {
+    Building,
+    Feeding,
+    Running,
+}
+
 // How many rows of each table stand.
 #[derive(Clone, Copy, Debug, PartialEq, Eq)]
 pub struct Counts {
@@ -77,11 +85,13 @@ fn clear_seeds(seeds: &mut [u32], from: usize, count: usize)
 }
 
 impl Phase {
-    // Whether the phase admits the calls that build a store, and the run.
-    pub fn admits(self) -> bool
-        ensures { result ≡ admits self }
+    // Whether a call of this kind finds the store as it wants it: today each wants an open one.
+    pub fn admits(self, kind: Kind) -> bool
+        ensures { result ≡ admits kind self }
     {
-        matches!(self, Phase::Open)
+        match kind {
+            Kind::Building | Kind::Feeding | Kind::Running => matches!(self, Phase::Open),
+        }
     }
 }
 
@@ -121,7 +131,7 @@ impl Store {
     pub fn context(&mut self, context: u32) -> Result<(), Refusal>
         ensures { replied result self.new ≡ context_call context self.old }
     {
-        if !self.phase.admits() {
+        if !self.phase.admits(Kind::Building) {
             return Err(Refusal::Closed);
         }
         self.context = Some(context);
@@ -152,7 +162,7 @@ impl Store {
     pub fn work(&mut self, amount: u64) -> Result<(), Refusal>
         ensures { replied result self.new ≡ work_call amount self.old }
     {
-        if !self.phase.admits() {
+        if !self.phase.admits(Kind::Building) {
             return Err(Refusal::Closed);
         }
         self.pay(Resource::Work, amount)
@@ -173,7 +183,7 @@ impl Store {
         if predicates.len() != sizes::PREDICATE_CELLS {
             return Err(Refusal::Shape);
         }
-        if !self.phase.admits() {
+        if !self.phase.admits(Kind::Building) {
             return Err(Refusal::Closed);
         }
         if sizes::PREDICATES < self.counts.predicates {
@@ -208,7 +218,7 @@ impl Store {
         if predicates.len() != sizes::PREDICATE_CELLS || seeds.len() != sizes::ARGUMENT_CELLS {
             return Err(Refusal::Shape);
         }
-        if !self.phase.admits() {
+        if !self.phase.admits(Kind::Building) {
             return Err(Refusal::Closed);
         }
         if !has_room(id, start, arity) {
