@@ -139,7 +139,9 @@ impl<'a> Input<'a> {
         Abstract::constant(short, key, self.width, meter)
     }
 
-    // The interval of a node with two children, and the unit of work before it.
+    // The interval of a node with two children, and the unit of work before it. Inlined: else both intervals are copied for it, 7 % of the
+    // time of deep expressions.
+    #[inline(always)]
     fn combine(
         &self,
         op: BinaryOp,
@@ -248,7 +250,7 @@ impl Scene<'_> {
         self.restrict_interval(interval?, id, meter)
     }
 
-    // A slot that is narrowed, as an operand. Its ids are read only where it has a list. Not inlined, as `unknown` below is not.
+    // A slot that is narrowed, as an operand. Its ids are read only where it has a list. Not inlined, as `constant` below is not.
     #[inline(never)]
     fn narrow_slot(
         &self,
@@ -270,15 +272,17 @@ impl Scene<'_> {
     fn slot(&self, slot: usize, id: u64, meter: &mut Meter) -> Result<Operand, Stop>
         ensures { answered result meter.new ≡ sees (after (copied (value_at self.now.slots.now slot) meter.old) (restrict self.now.input.constants.now (known_of self.now) id)) }
     {
-        rows::copied_at(self.slots, slot, meter)?;
-        let listed = rows::entries_at(self.slots, slot);
+        // Through `self` the slice would be read anew behind each write to the meter.
+        let slots = self.slots;
+        rows::copied_at(slots, slot, meter)?;
+        let listed = rows::entries_at(slots, slot);
         match refinements::position(self.refinements, self.count, id, meter) {
             Ok(Some(k)) => {
                 let restriction = refinements::restriction_at(self.refinements, k);
                 self.narrow_slot(slot, restriction, meter)
             }
             Ok(None) => Ok(Operand {
-                bound: rows::bound_at(self.slots, slot),
+                bound: rows::bound_at(slots, slot),
                 entries: listed,
             }),
             Err(stop) => {
@@ -288,7 +292,16 @@ impl Scene<'_> {
         }
     }
 
-    // An Unknown as an operand. Not inlined: its value would stand in each frame of a recursion that is 64 deep.
+    // A constant as an operand. Not inlined: its value would stand in each frame of a recursion that is 64 deep, and be cleared there.
+    #[inline(never)]
+    fn constant(&self, constant_id: u64, id: u64, meter: &mut Meter) -> Result<Operand, Stop>
+        ensures { answered result meter.new ≡ sees (after (constant (id_of constant_id) (constant_at self.now.input.constants.now (id_of constant_id)) self.now.input.width meter.old) (restrict self.now.input.constants.now (known_of self.now) id)) }
+    {
+        let value = self.input.constant(constant_id, meter)?;
+        Ok(Operand::from(self.restrict(value, id, meter)?))
+    }
+
+    // An Unknown as an operand. Not inlined, as `constant` is not.
     #[inline(never)]
     fn unknown(
         &self,
@@ -308,10 +321,7 @@ impl Scene<'_> {
     {
         meter.work(1)?;
         match nodes::expression_at(self.input.nodes, id as usize) {
-            Expression::Constant(constant) => {
-                let value = self.input.constant(constant, meter)?;
-                Ok(Operand::from(self.restrict(value, id, meter)?))
-            }
+            Expression::Constant(constant) => self.constant(constant, id, meter),
             Expression::Slot(slot) => self.slot(slot as usize, id, meter),
             Expression::Unknown(integer, reason) => self.unknown(integer, reason, id, meter),
             Expression::Unary(op, child) => {

@@ -81,15 +81,22 @@ fn has_node(nodes: &[u64], i: usize, node: Node) -> bool
     nodes[sizes::NODE_ROW * i + 2] == node.left && nodes::node_at(nodes, i) == node
 }
 
-// The first of the rows that has these cells. A `for`: `find` over the range takes 1.7 times as long.
+// The first of the rows that has these cells. Two are looked at in a turn: where the loop over one came to lie in memory decided on a fifth of the
+// time of bench/'s job `calls`. A `for`: `find` over the range takes 1.7 times as long.
 fn first_node(nodes: &[u64], count: usize, node: Node) -> Option<usize>
     requires { size.node_row * count ≤ length nodes.now }
     ensures { MatchOption result (count ≤ first_node nodes.now node 0 count) (λ i. (i < count) × (i ≡ first_node nodes.now node 0 count)) }
 {
-    for i in 0..count {
-        if has_node(nodes, i, node) {
-            return Some(i);
+    for pair in 0..count / 2 {
+        if has_node(nodes, 2 * pair, node) {
+            return Some(2 * pair);
         }
+        if has_node(nodes, 2 * pair + 1, node) {
+            return Some(2 * pair + 1);
+        }
+    }
+    if count % 2 == 1 && has_node(nodes, count - 1, node) {
+        return Some(count - 1);
     }
     None
 }

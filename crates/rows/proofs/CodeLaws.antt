@@ -5,16 +5,17 @@ use native.Mathlib.Nat.{add-zero}
 use native.Mathlib.Numerals.{towards_suc}
 use mathlib.Core.Path.{◌≡◌, refl, sym, ap, ◌∙◌}
 use mathlib.Core.Bool.{Bool, true, false, cond, not}
-use mathlib.Core.List.{List}
+use mathlib.Core.List.{List, [], ◌++◌}
 use mathlib.Core.Option.{Option, some, none}
 use borrow.Author.Tests.{eq-eqb, ne_eqb}
 use mir.Val.{bool_byte}
 use lib.Dec.{eqb}
-use lib.ListN.{length, get_or, take, drop, set, length-take, length-drop, length-map, get_or-map}
-use lib.Seq.{sets, get_or-take, get_or-drop}
+use lib.ListN.{length, get_or, take, drop, set, length-take, length-drop, length-map, get_or-map, drop_of_length-le}
+use lib.Seq.{sets, sets-eq, get_or-take, get_or-drop, drop-drop, ext_get_or}
+use borrow.Rule.Slice.PartMut.{put_mid}
 use Rattle.integers.proofs.Stores.{sets_min, drop_min, Filled, filled_all, Writing, writing_more, writing_all}
 use Rattle.interval.specs.declared.Bound.{Bound}
-use Rattle.std.proofs.Common.{Result, Ok, Err}
+use Rattle.std.proofs.Common.{Result, Ok, Err, append_assoc}
 use Rattle.limits.specs.declared.Stop.{Stop}
 use Rattle.limits.specs.declared.Meter.{Meter}
 use Rattle.limits.specs.Metered.{going, answered, seen}
@@ -27,7 +28,7 @@ use Rattle.lattice.specs.declared.Abstract.{Abstract}
 use Rattle.lattice.specs.Value.{Value, value_of, reason_number}
 use Rattle.sizes.specs.Sizes.{value_row}
 use Rattle.rows.specs.Row.{padded, bound_of, integrality_cell, case_cell, low_cell, high_cell, bound_cells, kept_cell, listed?, list_of, entries_of, encode, reason_of, id_of, row_ids, decode, value_at, put}
-use Rattle.rows.proofs.RowLaws.{length_padded, get_or_padded, row_cell}
+use Rattle.rows.proofs.RowLaws.{length_padded, get_or_padded, length_encode, row_cell}
 
 -- ---- the bound
 
@@ -81,33 +82,33 @@ kept_list : (t : Bool) (n : ℕ) (l : List ℕ) → cond (not t) (some (take n l
 kept_list true n l = refl
 kept_list false n l = refl
 
-module _ (cells : List ℕ) (i at : ℕ) (start : at ≡ min (value_row * i) (length cells)) where
-  the_row : padded value_row (drop at cells) ≡ padded value_row (drop (value_row * i) cells)
-  the_row = ap (λ (n : ℕ). padded value_row (drop n cells)) start ∙ ap (padded value_row) (drop_min cells (value_row * i))
+module _ (cells : List ℕ) (at : ℕ) where
+  -- the cells of the row that begins at `at`
+  abbrev pub the_row : List ℕ
+  the_row = padded value_row (drop at cells)
 
-  cell : (k : ℕ) → k < value_row → get_or cells (at + k) 0 ≡ get_or (padded value_row (drop at cells)) k 0
+  cell : (k : ℕ) → k < value_row → get_or cells (at + k) 0 ≡ get_or the_row k 0
   cell k h = sym (row_cell cells at k h)
 
-  first : get_or cells at 0 ≡ get_or (padded value_row (drop at cells)) 0 0
+  first : get_or cells at 0 ≡ get_or the_row 0 0
   first = rw add-zero at (cell 0 (omega arith))
 
   pub row_read : {b : Bound} {a₄ a₅ a₆ : ℕ} {w : Reason} {ids : List ℕ} →
-      b ≡ bound_of cells at → a₄ ≡ get_or cells (at + 4) 0 → a₅ ≡ get_or cells (at + 5) 0 → a₆ ≡ get_or cells (at + 6) 0 → w ≡ reason_of a₆ → ids ≡ row_ids (padded value_row (drop at cells)) →
-      value_of (record { bound = b; ids = ids; len = a₅; kept = not (eqb a₄ 0); reason = w }) ≡ value_at cells i
-  unfolding value_at decode
+      b ≡ bound_of cells at → a₄ ≡ get_or cells (at + 4) 0 → a₅ ≡ get_or cells (at + 5) 0 → a₆ ≡ get_or cells (at + 6) 0 → w ≡ reason_of a₆ → ids ≡ row_ids the_row →
+      value_of (record { bound = b; ids = ids; len = a₅; kept = not (eqb a₄ 0); reason = w }) ≡ decode the_row
+  unfolding decode
   row_read eb e₄ e₅ e₆ ew ei =
-      rw (← the_row, eb, ew, ei, first, cell 1 (omega arith), cell 2 (omega arith), cell 3 (omega arith))
-      (rw (e₄, cell 4 (omega arith), e₅, cell 5 (omega arith), e₆, cell 6 (omega arith))
-      (rw (kept_list (eqb (get_or (padded value_row (drop at cells)) 4 0) 0) (get_or (padded value_row (drop at cells)) 5 0) (row_ids (padded value_row (drop at cells))))))
+      rw (eb, ew, ei, first, cell 1 (omega arith), cell 2 (omega arith), cell 3 (omega arith))
+      (rw (e₄, cell 4 (omega arith), e₅, cell 5 (omega arith), e₆, cell 6 (omega arith)) (rw (kept_list (eqb (get_or the_row 4 0) 0) (get_or the_row 5 0) (row_ids the_row))))
 
   -- without a list the ids mean nothing
   pub row_bare : (ids : List ℕ) {b : Bound} {a₄ a₅ a₆ : ℕ} {w : Reason} →
       b ≡ bound_of cells at → a₄ ≡ get_or cells (at + 4) 0 → a₅ ≡ get_or cells (at + 5) 0 → a₆ ≡ get_or cells (at + 6) 0 → w ≡ reason_of a₆ → not (eqb a₄ 0) ≡ false →
-      value_of (record { bound = b; ids = ids; len = a₅; kept = not (eqb a₄ 0); reason = w }) ≡ value_at cells i
+      value_of (record { bound = b; ids = ids; len = a₅; kept = not (eqb a₄ 0); reason = w }) ≡ decode the_row
   row_bare ids {b} {a₄} {a₅} {w} eb e₄ e₅ e₆ ew bare = same (not (eqb a₄ 0)) bare ∙ row_read eb e₄ e₅ e₆ ew refl
     where
       same : (k : Bool) → k ≡ false →
-          value_of (record { bound = b; ids = ids; len = a₅; kept = k; reason = w }) ≡ value_of (record { bound = b; ids = row_ids (padded value_row (drop at cells)); len = a₅; kept = k; reason = w })
+          value_of (record { bound = b; ids = ids; len = a₅; kept = k; reason = w }) ≡ value_of (record { bound = b; ids = row_ids the_row; len = a₅; kept = k; reason = w })
       same k e = rw e refl
 
   -- the stores of the bound, of three cells and of the ids, as one
@@ -120,19 +121,50 @@ module _ (cells : List ℕ) (i at : ℕ) (start : at ≡ min (value_row * i) (le
   pub row_put : (v : Abstract) {k w : ℕ} {ids l₁ l₂ l₃ l₄ r : List ℕ} →
       k ≡ kept_cell (value_of v).values → ids ≡ list_of (value_of v).values → w ≡ reason_number v.reason →
       l₁ ≡ sets cells at (bound_cells v.bound) → l₂ ≡ set l₁ (at + 4) k → l₃ ≡ set l₂ (at + 5) (length ids) → l₄ ≡ set l₃ (at + 6) w →
-      r ≡ sets l₄ (at + 7) (padded (value_row - 7) ids) → r ≡ put cells i (value_of v)
+      r ≡ sets l₄ (at + 7) (padded (value_row - 7) ids) → r ≡ sets cells at (encode (value_of v))
+  row_put v ek en ew p₁ p₂ p₃ p₄ p = p ∙ rw (p₄, p₃, p₂, p₁, ek, en, ew) (stores (value_of v))
+
+-- ---- a row of a table
+
+-- what lies behind the first n is not read
+padded_taken : (n m : ℕ) (l : List ℕ) → n ≤ m → padded n (take m l) ≡ padded n l
+padded_taken n m l h =
+    ext_get_or 0 (padded n (take m l)) (padded n l) (length_padded n (take m l) ∙ sym (length_padded n l))
+    (λ k g.
+    let b : k < n = omega (arith, length_padded n (take m l)) in
+    get_or_padded n (take m l) k b ∙ get_or-take m l k 0 (omega arith) ∙ sym (get_or_padded n l k b))
+
+-- what is stored in a part that it fills is stored in the whole
+sets_part : (vs l : List ℕ) (at n : ℕ) → at + n ≤ length l → length vs ≡ n → put_mid at n l (sets (take n (drop at l)) 0 vs) ≡ sets l at vs
+sets_part vs l at n h e =
+    let p : sets (take n (drop at l)) 0 vs ≡ vs ++ drop (0 + length vs) (take n (drop at l)) = sets-eq vs (take n (drop at l)) 0 (simp (length-take, length-drop) (omega arith)) in
+    let z : drop (0 + length vs) (take n (drop at l)) ≡ [] = drop_of_length-le (take n (drop at l)) (simp (length-take, length-drop) (omega arith)) in
+    rw (p, z, drop-drop n at l)
+    (ap (λ (r : List ℕ). take at l ++ r) (append_assoc vs [] (drop (at + n) l)) ∙ sym ((rw e at (sets-eq vs l at (omega arith))) ∙ append_assoc (take at l) vs (drop (at + n) l)))
+
+module _ (cells : List ℕ) (i at : ℕ) (start : at ≡ min (value_row * i) (length cells)) where
+  pub row_at : decode (padded value_row (drop at cells)) ≡ value_at cells i
+  unfolding value_at
+  row_at = ap (λ (n : ℕ). decode (padded value_row (drop n cells))) start ∙ ap (λ (l : List ℕ). decode (padded value_row l)) (drop_min cells (value_row * i))
+
+  -- where the row lies in the table, from a table of that row
+  pub row_whole : {n : ℕ} → n ≡ value_row → decode (padded value_row (take n (drop at cells))) ≡ value_at cells i
+  row_whole e = ap decode (padded_taken value_row _ (drop at cells) (omega arith)) ∙ row_at
+
+  pub put_at : (v : Value) {r : List ℕ} → r ≡ sets cells at (encode v) → r ≡ put cells i v
   unfolding put
-  row_put v ek en ew p₁ p₂ p₃ p₄ p =
-      p ∙ rw (p₄, p₃, p₂, p₁, ek, en, ew)
-      (stores (value_of v) ∙ ap (λ (n : ℕ). sets cells n (encode (value_of v))) start ∙ sets_min (encode (value_of v)) cells (value_row * i))
+  put_at v e = e ∙ ap (λ (n : ℕ). sets cells n (encode v)) start ∙ sets_min (encode v) cells (value_row * i)
+
+  pub put_whole : (v : Value) {n : ℕ} {r : List ℕ} → n ≡ value_row → at + value_row ≤ length cells → r ≡ sets (take n (drop at cells)) 0 (encode v) → put_mid at n cells r ≡ put cells i v
+  put_whole v e h p = put_at v (ap (put_mid at _ cells) p ∙ sets_part (encode v) cells at _ (omega arith) (length_encode v ∙ sym e))
 
   -- ---- the live entries of a row
 
   -- its list, as the row has it
   row_entries : {a₄ a₅ : ℕ} → a₄ ≡ get_or cells (at + 4) 0 → a₅ ≡ get_or cells (at + 5) 0 →
       length (list_of (cond (eqb a₄ 0) none (some (take a₅ (row_ids (padded value_row (drop at cells))))))) ≡ entries_of (value_at cells i)
-  unfolding value_at decode
-  row_entries e₄ e₅ = rw (← the_row, e₄, cell 4 (omega arith), e₅, cell 5 (omega arith))
+  unfolding decode
+  row_entries e₄ e₅ = rw (← row_at, e₄, cell cells at 4 (omega arith), e₅, cell cells at 5 (omega arith))
 
   pub entries_none : {a₄ : ℕ} → a₄ ≡ get_or cells (at + 4) 0 → a₄ ≡ 0 → 0 ≡ entries_of (value_at cells i)
   entries_none e₄ z = rw (eq-eqb _ 0 z) at (row_entries e₄ refl)
@@ -145,12 +177,12 @@ module _ (cells : List ℕ) (i at : ℕ) (start : at ≡ min (value_row * i) (le
   -- ---- a row in parts
 
   pub bound_read : {b : Bound} → b ≡ bound_of cells at → b ≡ (value_at cells i).bound
-  bound_read e = e ∙ ap (λ (v : Value). v.bound) (row_read refl refl refl refl refl refl)
+  bound_read e = e ∙ ap (λ (v : Value). v.bound) (row_read cells at refl refl refl refl refl refl ∙ row_at)
 
   row_values : {a₄ : ℕ} → a₄ ≡ get_or cells (at + 4) 0 →
       (value_at cells i).values ≡ cond (eqb a₄ 0) none (some (take (get_or cells (at + 5) 0) (row_ids (padded value_row (drop at cells)))))
-  unfolding value_at decode
-  row_values e₄ = rw (← the_row, e₄, cell 4 (omega arith), cell 5 (omega arith))
+  unfolding decode
+  row_values e₄ = rw (← row_at, e₄, cell cells at 4 (omega arith), cell cells at 5 (omega arith))
 
   pub listed_read : {a₄ : ℕ} → a₄ ≡ get_or cells (at + 4) 0 → not (eqb a₄ 0) ≡ listed? (value_at cells i).values
   listed_read {a₄} e₄ = go (eqb a₄ 0) ∙ ap listed? (sym (row_values e₄))

@@ -9,7 +9,7 @@ ghost use Rattle.cells.specs.Cells.{of_cell};
 ghost use Rattle.limits.specs.Metered.{seen};
 ghost use Rattle.lattice.specs.Value.{value_of};
 ghost use Rattle.lattice.specs.Lattice.{copied};
-ghost use Rattle.rows.specs.Row.{padded, integrality_cell, case_cell, low_cell, high_cell, bound_cells, bound_of, listed?, list_of, entries_of, integrality_of, interval_of, reason_of, row_ids, value_at, put, moved};
+ghost use Rattle.rows.specs.Row.{padded, integrality_cell, case_cell, low_cell, high_cell, bound_cells, bound_of, listed?, list_of, entries_of, encode, integrality_of, interval_of, reason_of, row_ids, decode, value_at, put, moved};
 
 use cells::{cell_at, of_cell, put_cell, to_cell};
 use interval::{Bound, Integrality, Interval};
@@ -76,6 +76,13 @@ pub fn read_bound(cells: &[u32], at: usize) -> Bound
     requires { at ≤ length cells.now }
     ensures { result ≡ bound_of cells.now at }
 {
+    // Four cells that lie in the table want no test each.
+    if let [integrality, case, low, high, ..] = &cells[at..] {
+        return Bound {
+            integrality: integrality_of(*integrality),
+            interval: interval_of(*case, *low, *high),
+        };
+    }
     Bound {
         integrality: integrality_of(cell_at(cells, at)),
         interval: interval_of(
@@ -86,10 +93,12 @@ pub fn read_bound(cells: &[u32], at: usize) -> Bound
     }
 }
 
-pub fn abstract_at(cells: &[u32], row: usize) -> Abstract
-    ensures { value_of result ≡ value_at cells.now row }
+// The value in the row that begins at `at`. Inlined, so that no cell is tested for where the table is that row.
+#[inline(always)]
+fn read_row(cells: &[u32], at: usize) -> Abstract
+    requires { at ≤ length cells.now }
+    ensures { value_of result ≡ decode (padded size.value_row (drop at cells.now)) }
 {
-    let at = start(cells.len(), row);
     let bound = read_bound(cells, at);
     let kept = cell_at(cells, at + VALUE_KEPT) != 0;
     let len = cell_at(cells, at + VALUE_LENGTH) as usize;
@@ -112,6 +121,17 @@ pub fn abstract_at(cells: &[u32], row: usize) -> Abstract
         kept,
         reason,
     }
+}
+
+pub fn abstract_at(cells: &[u32], row: usize) -> Abstract
+    ensures { value_of result ≡ value_at cells.now row }
+{
+    let at = start(cells.len(), row);
+    // A row that lies in the table is read as a table of one row.
+    if VALUE_ROW <= cells.len() - at {
+        return read_row(&cells[at..at + VALUE_ROW], 0);
+    }
+    read_row(cells, at)
 }
 
 pub fn integrality_cell(integrality: Integrality) -> u32
@@ -230,6 +250,7 @@ fn id_at(ids: &[u16], j: usize) -> u32
 }
 
 // The list's ids, and 0 behind them, into the row that begins at `at`.
+#[inline(always)]
 fn put_ids(cells: &mut [u32], at: usize, ids: &[u16])
     requires { at ≤ length cells.old }
     ensures { cells.new ≡ sets cells.old (at + size.value_ids) (padded (size.value_row - size.value_ids) ids.now) }
@@ -239,10 +260,12 @@ fn put_ids(cells: &mut [u32], at: usize, ids: &[u16])
     }
 }
 
-pub fn put_abstract(cells: &mut [u32], row: usize, value: Abstract)
-    ensures { cells.new ≡ put cells.old row (value_of value) }
+// A value into the row that begins at `at`. Inlined as `read_row` is.
+#[inline(always)]
+fn put_row(cells: &mut [u32], at: usize, value: Abstract)
+    requires { at ≤ length cells.old }
+    ensures { cells.new ≡ sets cells.old at (encode (value_of value)) }
 {
-    let at = start(cells.len(), row);
     let ids = listed_ids(&value);
     put_bound(cells, at, value.bound);
     put_cell(cells, at + VALUE_KEPT, u32::from(value.kept));
@@ -250,6 +273,17 @@ pub fn put_abstract(cells: &mut [u32], row: usize, value: Abstract)
     let reason = lattice::reason_number(value.reason);
     put_cell(cells, at + VALUE_REASON, reason);
     put_ids(cells, at, ids);
+}
+
+pub fn put_abstract(cells: &mut [u32], row: usize, value: Abstract)
+    ensures { cells.new ≡ put cells.old row (value_of value) }
+{
+    let at = start(cells.len(), row);
+    if VALUE_ROW <= cells.len() - at {
+        put_row(&mut cells[at..at + VALUE_ROW], 0, value);
+        return;
+    }
+    put_row(cells, at, value);
 }
 
 // The first `count` rows of a table stand in another. Nothing is charged. Each is read and written anew, as cells that are no value's would be.

@@ -1,12 +1,11 @@
 -- `rows::abstract_at` meets its contract.
-use borrow.Author.Tests.{eq-eqb}
-use mathlib.Core.Path.{ap}
-use mathlib.Core.Bool.{not}
-use Rattle.rows.proofs.CodeLaws.{row_read, row_bare}
+use native.Mathlib.Omega.{arith}
+use mathlib.Core.Path.{◌∙◌}
+use Rattle.rows.proofs.CodeLaws.{row_at, row_whole}
 use Rattle.rows.proofs.abstract_at.Goals as goal
 
-pub returns-then-not-kept : goal.returns-then-not-kept
-returns-then-not-kept c = row_bare c.args.cells.now c.args.row c.start-at.result c.start-at.ensures _ c.read_bound-bound.ensures c.cell_at-kept.ensures c.cell_at-len.ensures c.cell_at.ensures c.reason_of-reason.ensures (ap not (eq-eqb _ 0 c.if-not-kept.true))
+pub returns-then-cells-at-ge-VALUE_ROW : goal.returns-then-cells-at-ge-VALUE_ROW
+returns-then-cells-at-ge-VALUE_ROW c = c.read_row.ensures ∙ row_whole c.args.cells.now c.args.row c.start-at.result c.start-at.ensures (omega arith)
 
 pub returns : goal.returns
-returns c = row_read c.args.cells.now c.args.row c.start-at.result c.start-at.ensures c.read_bound-bound.ensures c.cell_at-kept.ensures c.cell_at-len.ensures c.cell_at.ensures c.reason_of-reason.ensures c.ids_at-ids.ensures
+returns c = c.read_row-2.ensures ∙ row_at c.args.cells.now c.args.row c.start-at.result c.start-at.ensures

@@ -31,20 +31,9 @@ pub returns-in_err-work : goal.returns-in_err-work
 returns-in_err-work t c =
     exits _ c.from_residual.ensures.1 (ap sees (unpaid _ _ _ _ _ (broke c.work.ensures c.in_err-work.was)))
 
-pub returns-in_err-value-in-Constant : goal.returns-in_err-value-in-Constant
-returns-in_err-value-in-Constant t c =
-    exits _ c.from_residual-in_err-value-in-Constant.ensures.1
-    (ap sees (after_stop _ (seen_broke value_of c.constant.ensures c.in_err-value-in-Constant.was) ∙ at_node _ _ _ _ _ (went c.work.ensures c.in_ok-work.was) c.expression_at.ensures c.in-Constant.is))
-
-pub returns-in_err-restrict-in-Constant : goal.returns-in_err-restrict-in-Constant
-returns-in_err-restrict-in-Constant t c =
-    exits _ c.from_residual-in_err-restrict-in-Constant.ensures.1
-    (ap sees (seen_broke value_of c.restrict.ensures c.in_err-restrict-in-Constant.was ∙ after_on _ (seen_went value_of c.constant.ensures c.in_ok-value-in-Constant.was) ∙ at_node _ _ _ _ _ (went c.work.ensures c.in_ok-work.was) c.expression_at.ensures c.in-Constant.is))
-
-pub returns-in_ok-restrict-in-Constant : goal.returns-in_ok-restrict-in-Constant
-returns-in_ok-restrict-in-Constant t c =
-    sees_going (value_of c.in_ok-restrict-in-Constant.field-0) c.from.ensures
-    (seen_went value_of c.restrict.ensures c.in_ok-restrict-in-Constant.was ∙ after_on _ (seen_went value_of c.constant.ensures c.in_ok-value-in-Constant.was) ∙ at_node _ _ _ _ _ (went c.work.ensures c.in_ok-work.was) c.expression_at.ensures c.in-Constant.is)
+pub returns-in-Constant : goal.returns-in-Constant
+returns-in-Constant t c =
+    c.constant.ensures ∙ ap sees (at_node _ _ _ _ _ (went c.work.ensures c.in_ok-work.was) c.expression_at.ensures c.in-Constant.is)
 
 pub returns-in-Slot : goal.returns-in-Slot
 returns-in-Slot t c =
