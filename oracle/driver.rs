@@ -336,6 +336,7 @@ fn slot_lines(id: usize, slot: usize, rule: &RuleBounds) -> Option<String> {
     Some(format!("d {id} {slot} {domain}\ng {id} {slot} {produced}"))
 }
 
+/// With the words of document 02's request 1: Unbounded is not the interval that has both ends.
 fn bound(bound: Bound) -> String {
     let kind = match bound.integrality {
         Integrality::Integer => 'I',
@@ -344,7 +345,7 @@ fn bound(bound: Bound) -> String {
     match bound.interval {
         Interval::Bottom => format!("{kind} e e"),
         Interval::Bounded { low, high } => format!("{kind} {low} {high}"),
-        Interval::Unbounded => format!("{kind} {} {}", i32::MIN, i32::MAX),
+        Interval::Unbounded => format!("{kind} * *"),
     }
 }
 

@@ -10,7 +10,6 @@ use lib.Seq.{drop-cons, take_all}
 use mir.Syntax.{w16, w32}
 use mir.Val.{Fits, SFits, to_z, of_z}
 use mir.Facts.{to_z-of_z}
-use Rattle.integers.specs.Order.{least32, greatest32}
 use Rattle.integers.specs.Lists.{All}
 use Rattle.interval.specs.declared.Interval.{Interval}
 use Rattle.interval.specs.declared.Interval.TheVariants.{Bottom, Bounded, Unbounded}
@@ -61,16 +60,20 @@ pub puts_ends : (low high : ℤ) {a b c d e : ℕ} {l m n o p : List ℕ} → SF
     Puts (spaced_words (integer low ∷ integer high ∷ [])) a l e p
 puts_ends low high f g p q r s = puts_two p (rw (to_z-of_z f) at q) r (rw (to_z-of_z g) at s)
 
+-- one letter for both
+pub puts_twice : (k : ℕ) {a b c : ℕ} {l m n : List ℕ} → Puts (32 ∷ k ∷ []) a l b m → Puts (32 ∷ k ∷ []) b m c n → Puts (spaced_words ((k ∷ []) ∷ (k ∷ []) ∷ [])) a l c n
+unfolding spaced_words
+puts_twice k p q = puts_then p q
+
 module _ {i : Interval} {a b : ℕ} {l m : List ℕ} where
-  pub puts_empty : {c : ℕ} {n : List ℕ} → i ≡ Bottom → Puts (32 ∷ 101 ∷ []) a l b m → Puts (32 ∷ 101 ∷ []) b m c n → Puts (spaced_words (end_words i)) a l c n
-  unfolding spaced_words
-  puts_empty e p q = rw e (puts_then p q)
+  pub puts_empty : i ≡ Bottom → Puts (spaced_words ((101 ∷ []) ∷ (101 ∷ []) ∷ [])) a l b m → Puts (spaced_words (end_words i)) a l b m
+  puts_empty e p = rw e p
 
   pub puts_bounded : {low high : ℤ} → i ≡ Bounded low high → SFits w32 low → SFits w32 high →
       Puts (spaced_words (integer (to_z w32 (of_z w32 low)) ∷ integer (to_z w32 (of_z w32 high)) ∷ [])) a l b m → Puts (spaced_words (end_words i)) a l b m
   puts_bounded e f g p = rw e (rw (to_z-of_z f, to_z-of_z g) at p)
 
-  pub puts_unbounded : i ≡ Unbounded → Puts (spaced_words (integer least32 ∷ integer greatest32 ∷ [])) a l b m → Puts (spaced_words (end_words i)) a l b m
+  pub puts_unbounded : i ≡ Unbounded → Puts (spaced_words ((42 ∷ []) ∷ (42 ∷ []) ∷ [])) a l b m → Puts (spaced_words (end_words i)) a l b m
   puts_unbounded e p = rw e p
 
 pub puts_bound : (x : Bound) {k a b c : ℕ} {l m n : List ℕ} → k ∷ [] ≡ letter x.integrality →

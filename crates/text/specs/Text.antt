@@ -1,8 +1,7 @@
 -- The words of the report, in bytes of ASCII. 01, "Examples". 10 is the line feed, 32 the space, 44 `,`, 45 `-`, 48 to 57 are the digits, 73 is `I`,
--- 77 `M`, 91 `[`, 93 `]`, 101 `e`.
+-- 77 `M`, 91 `[`, 93 `]`, 101 `e`, and 42 `*`.
 use Rattle.std.specs.Prelude.{ℕ, zero, suc, ◌+◌, ◌/◌, ◌%◌, cond, List, [], ◌∷◌, ◌++◌, ltb, ℤ, pos, negsuc}
 use Rattle.std.proofs.Math.Option.{Option, some, none}
-use Rattle.integers.specs.Order.{least32, greatest32}
 use Rattle.interval.specs.declared.Integrality.{Integrality}
 use Rattle.interval.specs.declared.Integrality.TheVariants.{Integer, Mixed}
 use Rattle.interval.specs.declared.Interval.{Interval}
@@ -31,11 +30,11 @@ abbrev pub letter : Integrality → List ℕ
 letter Integer = 73 ∷ []
 letter Mixed = 77 ∷ []
 
--- 01: "An empty interval prints `e e`; Unbounded prints its two ends."
+-- 02, CR 1: "An Unbounded interval prints `* *`; a bounded one with both 32-bit ends prints the ends [..]; an empty one keeps `e e`."
 abbrev pub end_words : Interval → List (List ℕ)
 end_words Bottom = (101 ∷ []) ∷ (101 ∷ []) ∷ []
 end_words (Bounded low high) = integer low ∷ integer high ∷ []
-end_words Unbounded = integer least32 ∷ integer greatest32 ∷ []
+end_words Unbounded = (42 ∷ []) ∷ (42 ∷ []) ∷ []
 
 abbrev pub bound_words : Bound → List (List ℕ)
 bound_words b = letter b.integrality ∷ end_words b.interval

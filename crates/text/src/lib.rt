@@ -97,18 +97,25 @@ fn put_letter(line: &mut [u8], at: usize, byte: u8) -> usize
     put_byte(line, word, byte)
 }
 
+// A letter for each end, the same one.
+fn put_twice(line: &mut [u8], at: usize, byte: u8) -> usize
+    requires { at + 4 ≤ length line.old }
+    ensures puts { Puts (spaced_words ((byte ∷ []) ∷ (byte ∷ []) ∷ [])) at line.old result line.new }
+    ensures within { result ≤ at + 4 }
+{
+    let second = put_letter(line, at, byte);
+    put_letter(line, second, byte)
+}
+
 pub fn put_interval(line: &mut [u8], at: usize, interval: Interval) -> usize
     requires { at + 24 ≤ length line.old }
     ensures puts { Puts (spaced_words (end_words interval)) at line.old result line.new }
     ensures within { result ≤ at + 24 }
 {
     match interval {
-        Interval::Bottom => {
-            let second = put_letter(line, at, b'e');
-            put_letter(line, second, b'e')
-        }
+        Interval::Bottom => put_twice(line, at, b'e'),
         Interval::Bounded { low, high } => put_ends(line, at, low, high),
-        Interval::Unbounded => put_ends(line, at, i32::MIN, i32::MAX),
+        Interval::Unbounded => put_twice(line, at, b'*'),
     }
 }
 

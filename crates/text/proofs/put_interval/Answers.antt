@@ -5,7 +5,7 @@ use Rattle.text.proofs.put_interval.Goals as goal
 
 pub returns-in-Bottom : goal.returns-in-Bottom
 returns-in-Bottom c =
-    record { puts = puts_empty c.in-Bottom.is c.put_letter-second.ensures c.put_letter.ensures; within = search rules }
+    record { puts = puts_empty c.in-Bottom.is c.put_twice.ensures.puts; within = search rules }
 
 pub returns-in-Bounded : goal.returns-in-Bounded
 returns-in-Bounded c =
@@ -13,4 +13,4 @@ returns-in-Bounded c =
 
 pub returns-in-Unbounded : goal.returns-in-Unbounded
 returns-in-Unbounded c =
-    record { puts = puts_unbounded c.in-Unbounded.is c.put_ends-in-Unbounded.ensures.puts; within = search rules }
+    record { puts = puts_unbounded c.in-Unbounded.is c.put_twice-in-Unbounded.ensures.puts; within = search rules }
