@@ -2,8 +2,9 @@
 //! of numeric.rs would stand: a child module of `numeric` sees its private state.
 
 use super::{
-    Analysis, Argument, ArgumentId, BinaryOp, Bound, Budget, Classification, Error, Expression,
-    Failure, Input, Integrality, Interval, RuleBounds, RuleId, Status, Values, analyze,
+    Analysis, Argument, ArgumentId, BinaryOp, Binding, Bound, Budget, Classification, Error,
+    Expression, ExpressionId, Failure, Guard, Input, Integrality, Interval, Rule, RuleBounds,
+    RuleId, Status, Values, analyze,
 };
 use crate::job::{Call, Job, Key, Malformed, REASONS};
 use crate::{Limits, Oracle, Resource, Statistics, Stop, Widening};
@@ -27,6 +28,14 @@ const RULES: usize = 256;
 const THRESHOLDS_BEFORE: usize = 4_088;
 /// The most provenance records that may stand before a seed or a rule with a context.
 const PROVENANCE_BEFORE: usize = 1_008;
+
+// The three kinds of the Rust's InvalidInput (document 02, request 3).
+/// An id or a position does not exist.
+const MISSING: u32 = 5;
+/// The low end exceeds the high one.
+const DESCENDING: u32 = 13;
+/// A rule does not have the slot.
+const NO_SLOT: u32 = 14;
 
 /// Why the calls on one store end.
 #[derive(Debug)]
@@ -163,7 +172,8 @@ impl Session<'_> {
                 call if could_overfill(&call, input) => self.line("refused 2"),
                 call => {
                     let depth = call_nesting(&call, &nesting);
-                    self.outcome(carry_out(input, call));
+                    let cause = first_cause(&call, input).err();
+                    self.outcome(carry_out(input, call), cause);
                     // An id is new exactly if the table has grown; an equal expression is as deep.
                     if nesting.len() < input.expressions.len() {
                         nesting.push(depth);
@@ -173,13 +183,15 @@ impl Session<'_> {
         }
     }
 
-    fn outcome(&mut self, outcome: Result<Option<usize>, Error<Leave>>) {
-        match outcome {
-            Ok(None) => self.line("ok"),
-            Ok(Some(id)) => self.line(format!("ok {id}")),
-            Err(Error::InvalidInput) => self.line("refused 5"),
-            Err(Error::Limit(stop)) => self.line(format!("refused {}", stopped(stop))),
-            Err(error) => panic!("no call can end like this: {error:?}"),
+    /// The Rust tells InvalidInput, and the cause which of the three kinds it is. A call that it takes has no cause; one that a limit
+    /// turns down may have one further on.
+    fn outcome(&mut self, outcome: Result<Option<usize>, Error<Leave>>, cause: Option<u32>) {
+        match (outcome, cause) {
+            (Ok(None), None) => self.line("ok"),
+            (Ok(Some(id)), None) => self.line(format!("ok {id}")),
+            (Err(Error::InvalidInput), Some(cause)) => self.line(format!("refused {cause}")),
+            (Err(Error::Limit(stop)), _) => self.line(format!("refused {}", stopped(stop))),
+            (outcome, cause) => panic!("no call can end like this: {outcome:?}, {cause:?}"),
         }
     }
 
@@ -193,10 +205,16 @@ impl Session<'_> {
                     Some(context) => self.line(format!("c {context}")),
                     None => self.line("c -"),
                 },
-                Ok(Call::ReadArgument(id)) => self.reading(read_argument(analysis, id)),
-                Ok(Call::ReadContexts(id)) => self.reading(read_contexts(analysis, id)),
+                Ok(Call::ReadArgument(id)) => {
+                    self.reading(read_argument(analysis, id).ok_or(MISSING))
+                }
+                Ok(Call::ReadContexts(id)) => {
+                    self.reading(read_contexts(analysis, id).ok_or(MISSING))
+                }
                 Ok(Call::ReadSlot(rule, slot)) => self.reading(read_slot(analysis, rule, slot)),
-                Ok(Call::ReadConstant(id)) => self.reading(read_constant(analysis, id)),
+                Ok(Call::ReadConstant(id)) => {
+                    self.reading(read_constant(analysis, id).ok_or(MISSING))
+                }
                 Ok(_) => self.line("refused 1"),
                 Err(leave) => return leave,
             }
@@ -204,8 +222,11 @@ impl Session<'_> {
     }
 
     /// After a stopped run the tables of the analysis are empty, so every id is missing.
-    fn reading(&mut self, lines: Option<String>) {
-        self.line(lines.as_deref().unwrap_or("refused 5"));
+    fn reading(&mut self, lines: Result<String, u32>) {
+        match lines {
+            Ok(lines) => self.line(lines),
+            Err(cause) => self.line(format!("refused {cause}")),
+        }
     }
 
     fn report(&mut self, analysis: &Closed) {
@@ -224,7 +245,7 @@ impl Session<'_> {
         }
         for (id, rule) in rules.iter().enumerate() {
             for slot in 0..rule.domains().len() {
-                self.reading(slot_lines(id, slot, rule));
+                self.reading(slot_lines(id, slot, rule).ok_or(NO_SLOT));
             }
         }
     }
@@ -279,6 +300,106 @@ fn could_overfill(call: &Call, input: &Store<'_>) -> bool {
     }
 }
 
+/// What makes a call invalid, the first such thing in the order in which input.rs looks at it.
+fn first_cause(call: &Call, input: &Store<'_>) -> Result<(), u32> {
+    let (constants, expressions) = (input.constants.len(), input.expressions.len());
+    match *call {
+        // Both of its causes are 5, and it charges nothing.
+        Call::Argument(predicate, position) => input
+            .argument(predicate, position)
+            .map_or(Err(MISSING), |_| Ok(())),
+        Call::Expression(Expression::Constant(id)) => below(id.0, constants, MISSING),
+        Call::Expression(Expression::Unary(_, id) | Expression::Absolute(id)) => {
+            below(id.0, expressions, MISSING)
+        }
+        Call::Expression(Expression::Binary(_, left, right)) => {
+            below(left.0.max(right.0), expressions, MISSING)
+        }
+        Call::SeedValue(argument, constant) => {
+            below(constant.0, constants, MISSING)?;
+            below(argument.0, input.seeds.len(), MISSING)
+        }
+        Call::SeedInterval(_, low, high) if low > high => Err(DESCENDING),
+        Call::SeedInterval(argument, ..) => below(argument.0, input.seeds.len(), MISSING),
+        Call::Rule(ref rule) => rule_cause(rule, input),
+        _ => Ok(()),
+    }
+}
+
+fn below(number: usize, count: usize, cause: u32) -> Result<(), u32> {
+    if number < count { Ok(()) } else { Err(cause) }
+}
+
+fn rule_cause(rule: &Rule, input: &Store<'_>) -> Result<(), u32> {
+    let arguments = input.seeds.len();
+    let in_rule = |slot| below(slot, rule.slots, NO_SLOT);
+    // An expression without a cause is not walked through again: shared ones may be met very often.
+    let mut sound = vec![false; input.expressions.len()];
+    let mut check = |expression| expression_cause(expression, rule.slots, input, &mut sound);
+    for binding in &rule.bindings {
+        match *binding {
+            Binding::Positive { slot, argument } => {
+                below(argument.0, arguments, MISSING)?;
+                in_rule(slot)?;
+            }
+            Binding::Assign { slot, value } => {
+                check(value)?;
+                in_rule(slot)?;
+            }
+            Binding::Range { slot, low, high } => {
+                check(low)?;
+                check(high)?;
+                in_rule(slot)?;
+            }
+            Binding::Aggregate { slot, .. } => in_rule(slot)?,
+        }
+    }
+    for guard in &rule.guards {
+        match *guard {
+            Guard::Compare { left, right, .. } => {
+                check(left)?;
+                check(right)?;
+            }
+            Guard::Membership { slot, low, high } => {
+                in_rule(slot)?;
+                check(low)?;
+                check(high)?;
+            }
+        }
+    }
+    for head in &rule.heads {
+        check(head.value)?;
+        below(head.argument.0, arguments, MISSING)?;
+    }
+    Ok(())
+}
+
+/// Only the expression itself can be missing: those below it were there when it was made. The right child comes first.
+fn expression_cause(
+    id: ExpressionId,
+    slots: usize,
+    input: &Store<'_>,
+    sound: &mut [bool],
+) -> Result<(), u32> {
+    let expression = *input.expressions.get(id.0).ok_or(MISSING)?;
+    if sound[id.0] {
+        return Ok(());
+    }
+    match expression {
+        Expression::Slot(slot) => below(slot, slots, NO_SLOT)?,
+        Expression::Unary(_, child) | Expression::Absolute(child) => {
+            expression_cause(child, slots, input, sound)?;
+        }
+        Expression::Binary(_, left, right) => {
+            expression_cause(right, slots, input, sound)?;
+            expression_cause(left, slots, input, sound)?;
+        }
+        Expression::Constant(_) | Expression::Unknown { .. } => {}
+    }
+    sound[id.0] = true;
+    Ok(())
+}
+
 /// A store call on the source: its id, if it answers one.
 fn carry_out(input: &mut Store<'_>, call: Call) -> Result<Option<usize>, Error<Leave>> {
     match call {
@@ -311,8 +432,8 @@ fn read_contexts(analysis: &Closed, id: usize) -> Option<String> {
     Some(format!("p {id}{}", each(contexts)))
 }
 
-fn read_slot(analysis: &Closed, rule: usize, slot: usize) -> Option<String> {
-    slot_lines(rule, slot, analysis.rule(RuleId(rule))?)
+fn read_slot(analysis: &Closed, rule: usize, slot: usize) -> Result<String, u32> {
+    slot_lines(rule, slot, analysis.rule(RuleId(rule)).ok_or(MISSING)?).ok_or(NO_SLOT)
 }
 
 fn read_constant(analysis: &Closed, id: usize) -> Option<String> {

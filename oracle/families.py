@@ -140,7 +140,7 @@ def some_rule(store, rng):
 
 
 def broken_rule(store, rng, slots, body, guards, heads):
-    """The same rule with one reference to nothing: refused by 5, with what it charged before."""
+    """The same rule with one reference to nothing: refused by 5 or 14, with what it charged before."""
     copies = [[list(item) for item in items] for items in (body, guards, heads)]
     faults = []
     for item in copies[0]:

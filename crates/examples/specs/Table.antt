@@ -114,8 +114,8 @@ table =
     (run (join 2 (listed (1 ∷ 3 ∷ [])) (listed (5 ∷ []))) is some (value top_bound none (Some ValueWidth))) ∷
     -- K6 "seed 3..3 accepted"
     (seeding 3 3 is accepted) ∷
-    -- K7 "4..3 refused by 5"
-    (seeding 4 3 is refused_by 5) ∷
+    -- K7 "4..3 refused by 5", and 02, CR 3: "K7 becomes 13"
+    (seeding 4 3 is refused_by 13) ∷
     -- K8 "old 0..2, new 0..3, two growths, thresholds 2, 9: 0..9"
     (widening (0 ‥ 2) (0 ‥ 3) 2 is some (wide (0 ‥ 9) (growth 0 2))) ∷
     -- K9 "one growth: 0..3"

@@ -5,8 +5,10 @@ use mathlib.Core.Path.{◌≡◌, refl, sym, ap, subst, ◌∙◌}
 use Rattle.std.proofs.Common.{Result, Ok, Err}
 use mathlib.Core.Logic.{◌↔◌}
 use mathlib.Core.Bool.{Bool, true, false, cond}
+use mathlib.Core.List.{Memᴰ}
 use borrow.Author.Tests.{leb-true, leb-false, eq-eqb, ne_eqb}
 use lib.Dec.{leb, eqb}
+use Rattle.integers.proofs.ListLaws.{has, has_is}
 use Rattle.limits.specs.declared.Resource.{Resource}
 use Rattle.limits.specs.declared.Resource.TheVariants.{Work, Predicates, Positions, Links, ValueEntries, Rounds, InspectedBytes}
 use Rattle.limits.specs.declared.Stop.{Stop}
@@ -15,7 +17,7 @@ use Rattle.limits.specs.declared.Budget.{Budget}
 use Rattle.limits.specs.declared.Refusal.{Refusal}
 use Rattle.limits.specs.declared.Refusal.TheVariants.{Closed, Shape, Full, Limit, Missing, Descending, MissingSlot}
 use Rattle.limits.specs.Charge.{stop_of, observed, charge_of}
-use Rattle.limits.specs.Refusal.{resource_number, told}
+use Rattle.limits.specs.Refusal.{resource_number, told, refusals}
 use Rattle.limits.specs.Records.{limit_of, count_of, with_count, with_statistics}
 use Rattle.limits.specs.Metered.{Run, going, stopped, through, mapped}
 use Rattle.limits.specs.Budget.{charge, charged}
@@ -195,25 +197,28 @@ pub retain_is : (count : ℕ) (b : Budget) → metered (inner.retain count) b �
 unfolding through inner.retain charge
 retain_is count b = inner_retained b (charge_of ValueEntries b.statistics.entries count b.limits.entries)
 
--- ---- only the ten refusals: every number is one of 1 to 10, and 3, 4 and 6 to 10 are those with values
+-- ---- nothing but the ten refusals and those that requests add
 
-pub ten : (x : Refusal) → (1 ≤ (told x).number) × ((told x).number ≤ 10)
-ten Closed = (omega arith, omega arith)
-ten Shape = (omega arith, omega arith)
-ten Full = (omega arith, omega arith)
-ten (Limit s) = by_resource s.resource
+pub among_refusals : (x : Refusal) → Memᴰ (told x).number refusals
+among_refusals x = (has_is refusals (told x).number).0 (found x)
   where
-    by_resource : (r : Resource) → (1 ≤ resource_number r) × (resource_number r ≤ 10)
-    by_resource Work = (omega arith, omega arith)
-    by_resource Predicates = (omega arith, omega arith)
-    by_resource Positions = (omega arith, omega arith)
-    by_resource Links = (omega arith, omega arith)
-    by_resource ValueEntries = (omega arith, omega arith)
-    by_resource Rounds = (omega arith, omega arith)
-    by_resource InspectedBytes = (omega arith, omega arith)
-ten Missing = (omega arith, omega arith)
-ten Descending = (omega arith, omega arith)
-ten MissingSlot = (omega arith, omega arith)
+    by_resource : (r : Resource) → has refusals (resource_number r) ≡ true
+    by_resource Work = refl
+    by_resource Predicates = refl
+    by_resource Positions = refl
+    by_resource Links = refl
+    by_resource ValueEntries = refl
+    by_resource Rounds = refl
+    by_resource InspectedBytes = refl
+
+    found : (x : Refusal) → has refusals (told x).number ≡ true
+    found Closed = refl
+    found Shape = refl
+    found Full = refl
+    found (Limit s) = by_resource s.resource
+    found Missing = refl
+    found Descending = refl
+    found MissingSlot = refl
 
 -- ---- a charge is refused with a resource's number, which is neither 1 nor 2
 

@@ -1,5 +1,5 @@
--- 01, "What a call is turned down with": the number of each refusal, and the values that it carries.
-use Rattle.std.specs.Prelude.{ℕ, List, [], ◌∷◌, Result, Ok, Err}
+-- 01, "What a call is turned down with", and what the requests of 02 add: the number of each refusal, and the values that it carries.
+use Rattle.std.specs.Prelude.{ℕ, List, [], ◌∷◌, ◌++◌, Result, Ok, Err}
 use Rattle.limits.specs.declared.Resource.{Resource}
 use Rattle.limits.specs.declared.Resource.TheVariants.{Work, Predicates, Positions, Links, ValueEntries, Rounds, InspectedBytes}
 use Rattle.limits.specs.declared.Refusal.{Refusal}
@@ -27,8 +27,18 @@ told Shape = record { number = 1; values = [] }
 told Full = record { number = 2; values = [] }
 told (Limit s) = record { number = resource_number s.resource; values = s.limit ∷ observed s ∷ [] }
 told Missing = record { number = 5; values = [] }
-told Descending = record { number = 5; values = [] }
-told MissingSlot = record { number = 5; values = [] }
+told Descending = record { number = 13; values = [] }
+told MissingSlot = record { number = 14; values = [] }
+
+-- "Demand 1's ten refusals grow by the numbers that requests add": CR 3 adds 13, "low exceeds high", and 14, "no such slot"
+abbrev pub first_ten : List ℕ
+first_ten = 1 ∷ 2 ∷ 3 ∷ 4 ∷ 5 ∷ 6 ∷ 7 ∷ 8 ∷ 9 ∷ 10 ∷ []
+
+abbrev pub added : List ℕ
+added = 13 ∷ 14 ∷ []
+
+abbrev pub refusals : List ℕ
+refusals = first_ten ++ added
 
 -- a call's answer in the code, and the state that it leaves, as what the call's definition gives: a refusal as 01 tells it
 abbrev pub replied : {S A : Type 0} → Result A Refusal → S → Run Told S A

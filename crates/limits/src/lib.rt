@@ -59,7 +59,7 @@ pub struct Stop {
     pub low: u64,
 }
 
-// Why a call is turned down. Causes are kept apart where 01 gives several one number.
+// Why a call is turned down. Causes are kept apart where several have one number.
 #[derive(Clone, Copy, Debug, PartialEq, Eq)]
 pub enum Refusal {
     // The phase of the store does not admit the call.
@@ -74,7 +74,7 @@ pub enum Refusal {
     Missing,
     // The low end exceeds the high one.
     Descending,
-    // A slot does not exist.
+    // A rule does not have the slot.
     MissingSlot,
 }
 
@@ -213,7 +213,7 @@ impl From<Resource> for u64 {
     }
 }
 
-// 01's number of a refusal.
+// A refusal's number: 01's, or 02's.
 impl From<Refusal> for u64 {
     ghost from_gives = { λ r n. n ≡ (told r).number };
 
@@ -222,7 +222,9 @@ impl From<Refusal> for u64 {
             Refusal::Closed | Refusal::Shape => 1,
             Refusal::Full => 2,
             Refusal::Limit(stop) => u64::from(stop.resource),
-            Refusal::Missing | Refusal::Descending | Refusal::MissingSlot => 5,
+            Refusal::Missing => 5,
+            Refusal::Descending => 13,
+            Refusal::MissingSlot => 14,
         }
     }
 }

@@ -123,7 +123,7 @@ fn is_slots_sized(rules: usize, slots: usize) -> bool
 }
 
 // The bound of a rule's slot, before guards or after them.
-// Refused by 1, tables of other sizes, a run that has not ended; 5, a stopped run, no such rule, no such slot.
+// Refused by 1, tables of other sizes, a run that has not ended; 5, a stopped run, no such rule; 14, no such slot.
 // Charges nothing.
 #[tactic(auto, unfolding(crate::specs::Reading::slot_reading))]
 pub fn slot(

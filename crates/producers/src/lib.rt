@@ -241,7 +241,7 @@ fn check_rule(
 }
 
 // A rule: its id. What its heads have recorded of the context stays where it is refused.
-// Refused by 1, tables of other sizes, a shape that the port lacks, a store that is not open; 2, no room; 3; 8; then 3, 5 and 8, part by part.
+// Refused by 1, tables of other sizes, a shape that the port lacks, a store that is not open; 2, no room; 3; 8; then 3, 5, 14 and 8, part by part.
 // Charges a unit of work, its links at once, one unit for each part and each node of its expressions, and a link for each record.
 #[tactic(auto, unfolding(crate::specs::Producer::rule_call))]
 pub fn rule(

@@ -24,8 +24,8 @@ refusing Shape = plain 1
 refusing Full = plain 2
 refusing (Limit s) = limiting s
 refusing Missing = plain 5
-refusing Descending = plain 5
-refusing MissingSlot = plain 5
+refusing Descending = plain 13
+refusing MissingSlot = plain 14
 
 -- `value` says which number an answer is told as: itself, or 0 where there is nothing to tell
 abbrev pub reply_of : {A : Type 0} → (A → ℕ) → Result A Refusal → Reply
@@ -34,9 +34,9 @@ reply_of value (Err r) = refusing r
 
 -- ---- and back: what a reply tells
 
--- 01: "Numbers 3, 4 and 6 to 10 carry resource, limit and observed sum"
+-- 01: "Numbers 3, 4 and 6 to 10 carry resource, limit and observed sum"; what requests add carries none
 abbrev pub carries? : ℕ → Bool
-carries? n = get_or (false ∷ false ∷ false ∷ true ∷ true ∷ false ∷ []) n true
+carries? n = get_or (false ∷ false ∷ false ∷ true ∷ true ∷ false ∷ true ∷ true ∷ true ∷ true ∷ true ∷ []) n false
 
 abbrev pub told_by : Reply → Told
 told_by r = record { number = r.code; values = cond (carries? r.code) (r.limit ∷ (r.high * 2 ^ 64 + r.low) ∷ []) [] }

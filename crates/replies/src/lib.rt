@@ -64,7 +64,9 @@ pub fn refusing(refusal: Refusal) -> Reply
         Refusal::Closed | Refusal::Shape => plain(1),
         Refusal::Full => plain(2),
         Refusal::Limit(stop) => limiting(stop),
-        Refusal::Missing | Refusal::Descending | Refusal::MissingSlot => plain(5),
+        Refusal::Missing => plain(5),
+        Refusal::Descending => plain(13),
+        Refusal::MissingSlot => plain(14),
     }
 }
 

@@ -152,7 +152,7 @@ fn seed_ends(
 }
 
 // An interval is seeded to an argument. Nothing is answered.
-// Refused by 1, tables of other sizes, a store that is not open; 2, no room; 3; 5, low exceeds high, then no such argument; 8; then 3 and 8.
+// Refused by 1, tables of other sizes, a store that is not open; 2, no room; 3; 13, low exceeds high; 5, no such argument; 8; then 3 and 8.
 // Charges a unit of work; a link for a record of the context, if one is set; the thresholds of both ends; the join with the seed.
 #[tactic(auto, unfolding(crate::specs::Seed::seed_interval_call))]
 pub fn seed_interval(

@@ -195,7 +195,7 @@ same_ids_lem (a ∷ l) (b ∷ r) = halts_then (works 1) (halts_test (eqb a b) (s
 retained_halts : (id : ℕ) (b : Bound) (width : ℕ) → Frugal (retained id b width)
 retained_halts id b width = halts_test (leb 1 width) (halts_then (retains 1) (halts_pure _)) (halts_pure _)
 
-constant_halts : (id : ℕ) (c : Constant) (width : ℕ) → Frugal (constant id c width)
+pub constant_halts : (id : ℕ) (c : Constant) (width : ℕ) → Frugal (constant id c width)
 constant_halts id (Number n) width = retained_halts id _ width
 constant_halts id Name width = retained_halts id _ width
 constant_halts id Large width = halts_pure _

@@ -23,3 +23,5 @@ pub mod Example
 pub mod HaltingRules
 pub mod Halting
 pub mod Coded
+pub mod Stopping
+pub mod Numbers

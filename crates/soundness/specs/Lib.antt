@@ -5,3 +5,4 @@ pub mod Fits
 pub mod Claim
 pub mod Code
 pub mod Example
+pub mod Numbers
