@@ -86,7 +86,7 @@ module _ (k : Key) (s : Store) (n c o : List ℕ) (m : Meter) {r : Result Place 
     module _ {low : ℕ} (f : p ≡ absent low) where
       pub place_within : low ≤ s.counts.keys
       unfolding seek_key
-      place_within = absent_within (probe n c o k) s.counts.keys (meter_of s.budget) (answering.went h (e ∙ ap Ok f))
+      place_within = absent_within (probe n c o k) s.counts.keys s.counts.keys (meter_of s.budget) (answering.went h (e ∙ ap Ok f))
 
       pub keep_new : {y : Run Told KeyTables ℕ} → y ≡ settle k s.counts.keys (absent low) (key_tables (with_budget b s) n c o) → y ≡ keep_key k (key_tables s n c o)
       unfolding keep_key ◌>>=◌ after through mapped

@@ -13,7 +13,7 @@ use Rattle.search.specs.Seek.{found, absent}
 use Rattle.search.proofs.Turns.{is_less, is_greater, is_equal}
 use Rattle.search.proofs.Total.{turn, Total, Sorted, before_turn, after_turn, alike, rising, Gap, gap, its_place, inserted_sorted}
 use Rattle.search.proofs.Integers.{total_ℤ}
-use Rattle.search.proofs.Complete.{Rising, Ends, search_ends}
+use Rattle.search.proofs.Complete.{Rising, Ends, search_ends, enough}
 use Rattle.keys.specs.Key.{Key, number, name, compare_bytes, compare_keys, key_at, put_cells, put_name, probe, seek_key}
 use Rattle.keys.proofs.CodecLaws.{cells_kept, name_kept}
 
@@ -140,7 +140,7 @@ module _ (names cells order : List ℕ) (count : ℕ) (k : Key) (s : Ordered nam
   -- where it ends: at an equal key, or with all below the place less and all from it on greater
   pub search_complete : Ensures (Ends (probe names cells order k) count) (seek_key names cells order count k)
   unfolding seek_key
-  search_complete = search_ends (probe names cells order k) count probe_rises count (omega arith)
+  search_complete = search_ends (probe names cells order k) count probe_rises count (enough count)
 
   -- an equal key is found at its place
   pub key_found : (i : ℕ) → i < count → key_of_order names cells order i ≡ k → Ensures (λ p. p ≡ found i) (seek_key names cells order count k)

@@ -23,16 +23,11 @@ use Rattle.lattice.specs.Value.{Value, value}
 use Rattle.lists.specs.Lists.{union}
 use Rattle.lattice.specs.Lattice.{first_reason, joined_of, join_lists, join}
 use Rattle.lists.proofs.Unions.{union_increasing}
-use Rattle.lists.proofs.ListLaws.{Sorted, room, fitting, collect_is}
+use Rattle.lists.proofs.ListLaws.{Sorted, Small, room, fitting, collect_is}
 
 -- a store's width is at most 16, and then the room is the width
 pub room_width : (width : ℕ) → width ≤ 16 → room width ≡ width
 room_width width h = min-eq_left h
-
--- a list, if there is one, has at most 16 ids: those that the array of a value in hand has places for
-abbrev pub Small : Option (List ℕ) → Type 0
-Small none = Unit {0}
-Small (some l) = length l ≤ 16
 
 -- the list of a join: the union, if both have a list and it fits the width
 abbrev pub joined_list : ℕ → Option (List ℕ) → Option (List ℕ) → Option (List ℕ)

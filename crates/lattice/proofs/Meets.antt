@@ -22,8 +22,7 @@ use Rattle.lattice.specs.Value.{Value, value}
 use Rattle.lattice.specs.Constants.{constant_at}
 use Rattle.lists.specs.Lists.{push}
 use Rattle.lattice.specs.Lattice.{first_reason, permitted, keep_one, sift, reduce, source, meet_lists, meet}
-use Rattle.lists.proofs.ListLaws.{has_in, Sorted, permits_is}
-use Rattle.lattice.proofs.Joins.{Small}
+use Rattle.lists.proofs.ListLaws.{has_in, Sorted, Small, Searchable, permits_is}
 
 -- ---- what stays
 
@@ -51,7 +50,7 @@ stays_is cs x y b i = (
   λ h. rw ((has_in_is x i).1 h.0, (has_in_is y i).1 h.1, h.2),
 )
 
-module _ (u v : Value) (p : Sorted u.values) (q : Sorted v.values) where
+module _ (u v : Value) (p : Searchable u.values) (q : Searchable v.values) where
   pub permitted_is : (i : ℕ) → Ensures (λ t. t ≡ (has_in u.values i && has_in v.values i)) (permitted u v i)
   unfolding permitted
   permitted_is i =
@@ -108,13 +107,13 @@ met_from cs u v b (some l) =
 abbrev pub met_value : List ℕ → Value → Value → Value
 met_value cs u v = met_from cs u v (meet_bound u.bound v.bound) (source u.values v.values)
 
-lists_meet : (cs : List ℕ) (u v : Value) (b : Bound) (o : Option (List ℕ)) → Sorted u.values → Sorted v.values →
+lists_meet : (cs : List ℕ) (u v : Value) (b : Bound) (o : Option (List ℕ)) → Searchable u.values → Searchable v.values →
     Ensures (λ w. w ≡ met_from cs u v b o) (meet_lists u v b cs o)
 lists_meet cs u v b none p q = by_pure _ refl
 lists_meet cs u v b (some l) p q =
     bind (sift_is u v p q b cs [] l) (λ kept e. bind (reduce_is b cs kept) (λ r f. by_pure (value r (some kept) None) (rw (f, e))))
 
-pub meet_is : (cs : List ℕ) (u v : Value) → Sorted u.values → Sorted v.values → Ensures (λ w. w ≡ met_value cs u v) (meet cs u v)
+pub meet_is : (cs : List ℕ) (u v : Value) → Searchable u.values → Searchable v.values → Ensures (λ w. w ≡ met_value cs u v) (meet cs u v)
 unfolding meet
 meet_is cs u v p q = then (work 1) (lists_meet cs u v (meet_bound u.bound v.bound) (source u.values v.values) p q)
 
@@ -144,7 +143,7 @@ listless cs u v w p q e =
     no false h = refl
 
 pub meet_listless : (cs : List ℕ) (u v : Value) → u.values ≡ none → v.values ≡ none → Ensures (λ w. Listless u v w) (meet cs u v)
-meet_listless cs u v p q = weaken (λ w e. listless cs u v w p q e) (meet_is cs u v (rw p tt) (rw q tt))
+meet_listless cs u v p q = weaken (λ w e. listless cs u v w p q e) (meet_is cs u v (rw p record { sorted = tt; small = tt }) (rw q record { sorted = tt; small = tt }))
 
 -- ---- a list on some side: l is the one that the meet goes through
 
@@ -175,7 +174,7 @@ source_small none y p q = q
 source_small (some x) none p q = p
 source_small (some x) (some y) p q = by_cond (λ (z : List ℕ). length z ≤ 16) (leb (length x) (length y)) (λ _. p) (λ _. q)
 
-from_list : (cs : List ℕ) (u v w : Value) (l : List ℕ) → Sorted u.values → Sorted v.values → source u.values v.values ≡ some l → w ≡ met_value cs u v → FromList cs u v l w
+from_list : (cs : List ℕ) (u v w : Value) (l : List ℕ) → Searchable u.values → Searchable v.values → source u.values v.values ≡ some l → w ≡ met_value cs u v → FromList cs u v l w
 from_list cs u v w l p q s e =
     let f : w ≡ met_from cs u v b (some l) = e ∙ rw s in
     record {
@@ -188,7 +187,7 @@ from_list cs u v w l p q s e =
         λ m. (stays_is cs u.values v.values b i).0 ((passing_in t l i).0 m).1,
         λ h. (passing_in t l i).1 (source_in u.values v.values l i s h.0 h.1, (stays_is cs u.values v.values b i).1 h),
       );
-      increasing = passing_increasing t l (rw s at (source_sorted u.values v.values p q));
+      increasing = passing_increasing t l (rw s at (source_sorted u.values v.values p.sorted q.sorted));
       shorter = passing_length t l;
     }
   where
@@ -198,13 +197,13 @@ from_list cs u v w l p q s e =
     t : ℕ → Bool
     t = stays cs u.values v.values b
 
-pub meet_from_list : (cs : List ℕ) (u v : Value) (l : List ℕ) → Sorted u.values → Sorted v.values → source u.values v.values ≡ some l →
+pub meet_from_list : (cs : List ℕ) (u v : Value) (l : List ℕ) → Searchable u.values → Searchable v.values → source u.values v.values ≡ some l →
     Ensures (λ w. FromList cs u v l w) (meet cs u v)
 meet_from_list cs u v l p q s = weaken (λ w e. from_list cs u v w l p q s e) (meet_is cs u v p q)
 
 -- ---- in any case
 
-module _ (cs : List ℕ) (u v : Value) (p : Sorted u.values) (q : Sorted v.values) where
+module _ (cs : List ℕ) (u v : Value) (p : Searchable u.values) (q : Searchable v.values) where
   met_sorted : (o : Option (List ℕ)) (b : Bound) → Sorted o → Sorted (met_from cs u v b o).values
   met_sorted none b s = by_cond Sorted (same_bound b bottom_bound) (λ _. tt) (λ _. tt)
   met_sorted (some l) b s = passing_increasing (stays cs u.values v.values b) l s
@@ -214,7 +213,7 @@ module _ (cs : List ℕ) (u v : Value) (p : Sorted u.values) (q : Sorted v.value
   met_small (some l) b s = omega (arith, passing_length (stays cs u.values v.values b) l)
 
   pub meet_sorted : Ensures (λ w. Sorted w.values) (meet cs u v)
-  meet_sorted = weaken (λ w e. rw e (met_sorted (source u.values v.values) _ (source_sorted u.values v.values p q))) (meet_is cs u v p q)
+  meet_sorted = weaken (λ w e. rw e (met_sorted (source u.values v.values) _ (source_sorted u.values v.values p.sorted q.sorted))) (meet_is cs u v p q)
 
-  pub meet_small : Small u.values → Small v.values → Ensures (λ w. Small w.values) (meet cs u v)
-  meet_small s t = weaken (λ w e. rw e (met_small (source u.values v.values) _ (source_small u.values v.values s t))) (meet_is cs u v p q)
+  pub meet_small : Ensures (λ w. Small w.values) (meet cs u v)
+  meet_small = weaken (λ w e. rw e (met_small (source u.values v.values) _ (source_small u.values v.values p.small q.small))) (meet_is cs u v p q)

@@ -29,7 +29,7 @@ use Rattle.lattice.specs.Constants.{constant_at}
 use Rattle.lists.specs.Lists.{union}
 use Rattle.lattice.specs.Lattice.{bottom, top, numeric, retained, constant, same, join, source, meet, refine}
 use Rattle.lists.proofs.Unions.{union_in}
-use Rattle.lists.proofs.ListLaws.{Sorted, room}
+use Rattle.lists.proofs.ListLaws.{Searchable, room}
 use Rattle.lattice.proofs.Joins.{joined_list, join_is}
 use Rattle.lattice.proofs.Copies.{same_is}
 use Rattle.lattice.proofs.Tidiness.{numeric_tidy}
@@ -169,7 +169,7 @@ module _ {K : Type 0} (num : K → Option ℤ) (Key : ℕ → K → Type 0) wher
     shared k (some x) none l e p q = (p.0, p.1, tt, p.2)
     shared k (some x) (some y) l e p q = (p.0, p.1, subst (λ (j : ℕ). Memᴰ j y) (t.one q.0 p.0 k q.2 p.2) q.1, p.2)
 
-    module _ (u v : Value) (su : Sorted u.values) (sv : Sorted v.values) (k : K) where
+    module _ (u v : Value) (su : Searchable u.values) (sv : Searchable v.values) (k : K) where
       in_met : In u k → In v k → InBound (num k) (meet_bound u.bound v.bound)
       in_met p q = (in_meet (num k) u.bound v.bound).1 (p.bound, q.bound)
 
@@ -202,7 +202,7 @@ module _ {K : Type 0} (num : K → Option ℤ) (Key : ℕ → K → Type 0) wher
       meet_in p q = meet_to p q (source u.values v.values) refl
 
   -- and nothing else: this needs no fact of the table
-  module _ (cs : List ℕ) (u v : Value) (su : Sorted u.values) (sv : Sorted v.values) (k : K) where
+  module _ (cs : List ℕ) (u v : Value) (su : Searchable u.values) (sv : Searchable v.values) (k : K) where
     no_lists : (x y : Option (List ℕ)) → source x y ≡ none → Listed Key k x × Listed Key k y
     no_lists none none e = (tt, tt)
     no_lists none (some y) e = let z : ◌≡◌ {A = ℕ} 0 1 = cc in absurd (omega arith)
@@ -239,14 +239,14 @@ module _ {K : Type 0} (num : K → Option ℤ) (Key : ℕ → K → Type 0) wher
   -- ---- refine
 
   -- a narrowed value keeps the numbers of the interval
-  pub refine_in : (cs : List ℕ) → Keyed cs → (v : Value) → Sorted v.values → (i : Interval) (k : K) (n : ℤ) → num k ≡ some n → cousot i ∋ n → In v k → Ensures (λ w. In w k) (refine cs v i)
+  pub refine_in : (cs : List ℕ) → Keyed cs → (v : Value) → Searchable v.values → (i : Interval) (k : K) (n : ℤ) → num k ≡ some n → cousot i ∋ n → In v k → Ensures (λ w. In w k) (refine cs v i)
   unfolding refine
-  refine_in cs t v s i k n e m h = meet_in cs t v (numeric i) s (numeric_tidy i).sorted k h (numeric_in k i n e m)
+  refine_in cs t v s i k n e m h = meet_in cs t v (numeric i) s (numeric_tidy i) k h (numeric_in k i n e m)
 
   -- and has only numbers of the interval that were in the value
-  pub refine_only : (cs : List ℕ) (v : Value) → Sorted v.values → (i : Interval) (k : K) → Ensures (λ w. In w k → In v k × ((n : ℤ) × (num k ≡ some n) × (cousot i ∋ n))) (refine cs v i)
+  pub refine_only : (cs : List ℕ) (v : Value) → Searchable v.values → (i : Interval) (k : K) → Ensures (λ w. In w k → In v k × ((n : ℤ) × (num k ≡ some n) × (cousot i ∋ n))) (refine cs v i)
   unfolding refine
-  refine_only cs v s i k = weaken (λ w f h. let p = f h in (p.0, numeric_only k i p.1)) (meet_only cs v (numeric i) s (numeric_tidy i).sorted k)
+  refine_only cs v s i k = weaken (λ w f h. let p = f h in (p.0, numeric_only k i p.1)) (meet_only cs v (numeric i) s (numeric_tidy i) k)
 
   -- ---- constant
 

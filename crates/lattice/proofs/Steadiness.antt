@@ -17,7 +17,7 @@ use Rattle.search.proofs.Complete.{steady_seek}
 use Rattle.lattice.specs.Value.{Reason}
 use Rattle.lattice.specs.Value.{Value}
 use Rattle.lattice.specs.Constants.{constant_at}
-use Rattle.lists.specs.Lists.{union, push, take_one, collect, permits_in, permits, same_ids}
+use Rattle.lists.specs.Lists.{union, push, take_one, collect, list_turns, permits_in, permits, same_ids}
 use Rattle.lattice.specs.Lattice.{numeric, retained, constant, copied_list, copied, same_lists, same, joined_of, join_lists, join, permitted, keep_one, sift, reduce, source, meet_lists, meet, refine}
 
 -- ---- lists
@@ -37,7 +37,7 @@ collect_steady width kept (i ∷ l) =
 pub permits_steady : (o : Option (List ℕ)) (id : ℕ) → Steady (permits o id)
 unfolding permits_in
 permits_steady none id = steady_pure _
-permits_steady (some l) id = steady_bind (steady_seek _ (length l) 0 (length l)) (λ p. steady_pure (found? p))
+permits_steady (some l) id = steady_bind (steady_seek _ list_turns 0 (length l)) (λ p. steady_pure (found? p))
 
 same_ids_steady : (l r : List ℕ) → Steady (same_ids l r)
 unfolding same_ids

@@ -12,14 +12,13 @@ use Rattle.interval.specs.declared.Constant.{Constant}
 use Rattle.interval.specs.declared.Constant.TheVariants.{Number, Name, Large}
 use Rattle.lattice.specs.Value.{Value}
 use Rattle.lattice.specs.Lattice.{numeric, retained, constant, copied, join, meet, refine}
-use Rattle.lists.proofs.ListLaws.{Sorted}
-use Rattle.lattice.proofs.Joins.{Small, join_sorted, join_small}
+use Rattle.lists.proofs.ListLaws.{Searchable}
+use Rattle.lattice.proofs.Joins.{join_sorted, join_small}
 use Rattle.lattice.proofs.Meets.{meet_sorted, meet_small}
 use Rattle.lattice.proofs.Copies.{copied_is}
 
-pub record Tidy (v : Value) : Type 0 where
-  pub sorted : Sorted v.values
-  pub small : Small v.values
+abbrev pub Tidy : Value → Type 0
+Tidy v = Searchable v.values
 
 pub numeric_tidy : (i : Interval) → Tidy (numeric i)
 numeric_tidy Bottom = record { sorted = tt; small = omega arith }
@@ -44,7 +43,7 @@ join_tidy width u v p q = weaken (λ w h. record { sorted = h.0; small = h.1 }) 
 pub meet_tidy : (cs : List ℕ) (u v : Value) → Tidy u → Tidy v → Ensures Tidy (meet cs u v)
 meet_tidy cs u v p q =
     weaken (λ w h. record { sorted = h.0; small = h.1 })
-    (both (meet_sorted cs u v p.sorted q.sorted) (meet_small cs u v p.sorted q.sorted p.small q.small))
+    (both (meet_sorted cs u v p q) (meet_small cs u v p q))
 
 pub refine_tidy : (cs : List ℕ) (v : Value) (i : Interval) → Tidy v → Ensures Tidy (refine cs v i)
 unfolding refine

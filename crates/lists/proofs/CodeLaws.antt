@@ -1,8 +1,8 @@
 -- What the code's answers are, over plain variables: one law for each way out of a step.
-use Prim.Native.Nat.{ℕ, suc, ◌+◌, ◌-◌, ◌<◌, ◌≤◌, min}
+use Prim.Native.Nat.{◌^◌, ℕ, suc, ◌+◌, ◌-◌, ◌<◌, ◌≤◌, min}
 use native.Mathlib.Omega.{arith}
 use native.Mathlib.Numerals.{add-one}
-use mathlib.Core.Path.{◌≡◌, refl, ◌∙◌}
+use mathlib.Core.Path.{◌≡◌, refl, sym, subst, ◌∙◌}
 use mathlib.Core.Bool.{Bool, true, false}
 use mathlib.Core.List.{List, [], ◌∷◌}
 use borrow.Author.Tests.{le-leb, lt-leb, eq-eqb, ne_eqb}
@@ -14,9 +14,17 @@ use Rattle.limits.specs.declared.Meter.{Meter}
 use Rattle.limits.specs.Metered.{Run, going, stopped, pure, after, ◌>>=◌, ◌>>◌}
 use Rattle.limits.specs.Meter.{work, release, released, holding}
 use Rattle.limits.proofs.Monad.{then_on, then_stop, pure_is, yes_on, no_on}
-use Rattle.std.proofs.Common.{is_ok}
+use Rattle.std.proofs.Common.{is_ok, Result, Ok, Err}
 use Rattle.search.specs.Seek.{Place, found, absent, found?, seek, compareℕ}
-use Rattle.lists.specs.Lists.{push, retain_all, take_one, permits_in, same_ids}
+use Rattle.search.proofs.Complete.{turns_same}
+use Rattle.search.proofs.Looks.{AtMost, at_most_after, at_most_left, seek_at_most}
+use Rattle.lists.specs.Lists.{push, retain_all, take_one, permits_in, Tells, same_ids}
+use Rattle.lists.proofs.ListLaws.{permits_in_lem}
+use Rattle.integers.specs.Lists.{Increasing}
+use Rattle.integers.proofs.ListLaws.{has, has_at, at_has}
+use Rattle.limits.proofs.Monad.{Holds}
+use Rattle.limits.specs.Metered.{answered}
+use Rattle.std.proofs.lemmas.List.{get_or_default}
 
 -- ---- the entries of a list
 
@@ -78,6 +86,31 @@ module _ (l : List ℕ) (id turns : ℕ) (m : Meter) {m' : Meter} where
   pub permits_stopped : {s : Stop} → stopped s m' ≡ seek (λ i. compareℕ (get_or l i 0) id) turns 0 (length l) m → stopped s m' ≡ permits_in turns l id m
   unfolding permits_in ◌>>=◌ after
   permits_stopped h = rw (← h)
+
+-- ---- what a search of a list promises besides: whatever the list is, at most a unit of work a turn
+
+permits_at_most : (turns : ℕ) (l : List ℕ) (id : ℕ) (m : Meter) → AtMost (m.work + turns) (permits_in turns l id m)
+unfolding permits_in pure ◌>>=◌
+permits_at_most turns l id m =
+    at_most_after (λ p. pure (found? p)) (seek (λ i. compareℕ (get_or l i 0) id) turns 0 (length l) m) (omega arith)
+    (seek_at_most (λ i. compareℕ (get_or l i 0) id) turns 0 (length l) m) (λ p m' h. h)
+
+pub permits_looks : (turns : ℕ) (l : List ℕ) (id : ℕ) (m m' : Meter) (r : Result Bool Stop) → answered r m' ≡ permits_in turns l id m → m'.work ≤ m.work + turns
+permits_looks turns l id m m' r e = at_most_left r m' (subst (AtMost (m.work + turns)) (sym e) (permits_at_most turns l id m))
+
+-- any two numbers of turns that are enough are as good
+pub permits_same : (f g : ℕ) (l : List ℕ) (id : ℕ) (m : Meter) → length l < 2 ^ f → length l < 2 ^ g → permits_in f l id m ≡ permits_in g l id m
+unfolding permits_in
+permits_same f g l id m h k = rw (turns_same (λ i. compareℕ (get_or l i 0) id) f g 0 (length l) (omega arith) (omega arith))
+
+-- and on a list in order yes exactly for an id in it
+pub permits_tells : (turns : ℕ) (l : List ℕ) (id : ℕ) (m m' : Meter) (r : Result Bool Stop) → Increasing l → length l < 2 ^ turns → answered r m' ≡ permits_in turns l id m → Tells l id r
+permits_tells turns l id m m' (Ok told) s h e =
+    let b : told ≡ has l id = subst (Holds (λ t. t ≡ has l id)) (sym e) ((permits_in_lem l id s turns h).at m) in (
+      λ t. let w = has_at l id (sym b ∙ t) in (w.0, w.1, get_or_default l w.0 id 0 w.1 ∙ w.2),
+      λ c. b ∙ at_has l c.0 id c.1 (sym (get_or_default l c.0 id 0 c.1) ∙ c.2),
+    )
+permits_tells turns l id m m' (Err stop) s h e = tt
 
 -- ---- two lists, id by id
 

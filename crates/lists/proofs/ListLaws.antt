@@ -1,5 +1,5 @@
 -- What the metered list operations give where they complete: permits is membership, a collected list is kept exactly if it fits the width.
-use Prim.Native.Nat.{ℕ, suc, ◌+◌, ◌<◌, ◌≤◌, min}
+use Prim.Native.Nat.{ℕ, suc, ◌+◌, ◌^◌, ◌<◌, ◌≤◌, min}
 use native.Mathlib.Omega.{arith}
 use mathlib.Core.Path.{◌≡◌, refl, sym, ◌∙◌}
 use mathlib.Core.Bool.{Bool, true, false, cond}
@@ -17,7 +17,7 @@ use Rattle.std.specs.declared.cmp.Ordering.TheVariants.{Less, Greater}
 use Rattle.search.specs.Seek.{Place, found, absent, found?, compareℕ}
 use Rattle.search.proofs.Turns.{is_less, is_greater, less_is, greater_is, equal_is}
 use Rattle.search.proofs.Complete.{Rising, Ends, search_ends}
-use Rattle.lists.specs.Lists.{push, take_one, collect, permits_in, permits}
+use Rattle.lists.specs.Lists.{push, take_one, collect, list_turns, permits_in, permits}
 
 -- ---- permits
 
@@ -44,7 +44,7 @@ module _ (l : List ℕ) (id : ℕ) (inc : Increasing l) where
   ended (absent low) h = not_there low h.1 h.2 (has l id) refl
 
   -- on a strictly increasing list, with turns enough, yes exactly for an id in the list
-  pub permits_in_lem : (turns : ℕ) → length l ≤ turns → Ensures (λ t. t ≡ has l id) (permits_in turns l id)
+  pub permits_in_lem : (turns : ℕ) → length l < 2 ^ turns → Ensures (λ t. t ≡ has l id) (permits_in turns l id)
   unfolding permits_in
   permits_in_lem turns h = bind (search_ends probe (length l) rising turns h) (λ p e. by_pure (found? p) (ended p e))
 
@@ -57,9 +57,19 @@ abbrev pub Sorted : Option (List ℕ) → Type 0
 Sorted none = Unit {0}
 Sorted (some l) = Increasing l
 
-pub permits_is : (o : Option (List ℕ)) (id : ℕ) → Sorted o → Ensures (λ t. t ≡ has_in o id) (permits o id)
+-- a list, if there is one, has at most 16 ids: those that the array of a value in hand has places for
+abbrev pub Small : Option (List ℕ) → Type 0
+Small none = Unit {0}
+Small (some l) = length l ≤ 16
+
+-- what a search through a list asks of it
+pub record Searchable (o : Option (List ℕ)) : Type 0 where
+  pub sorted : Sorted o
+  pub small : Small o
+
+pub permits_is : (o : Option (List ℕ)) (id : ℕ) → Searchable o → Ensures (λ t. t ≡ has_in o id) (permits o id)
 permits_is none id s = by_pure true refl
-permits_is (some l) id s = permits_in_lem l id s (length l) (omega arith)
+permits_is (some l) id s = permits_in_lem l id s.sorted list_turns (omega (arith, s.small))
 
 -- ---- collect
 

@@ -12,7 +12,7 @@ use Rattle.limits.specs.Meter.{work, holding}
 use Rattle.limits.proofs.Live.{Lives, live_pure, live_test, live_bind, live_then, live_work, live_retain, live_release, live_holding, live_as, live_beside}
 use Rattle.search.proofs.Live.{seek_lives}
 use Rattle.search.specs.Seek.{found?}
-use Rattle.lists.specs.Lists.{push, retain_all, take_one, collect, permits_in, permits, same_ids}
+use Rattle.lists.specs.Lists.{push, retain_all, take_one, collect, list_turns, permits_in, permits, same_ids}
 
 -- the entries of a list, if there is one
 abbrev pub list_size : Option (List ℕ) → ℕ
@@ -51,7 +51,7 @@ collect_lives width kept (i ∷ l) =
 pub permits_lives : (o : Option (List ℕ)) (id : ℕ) → Lives 0 (λ _. 0) (permits o id)
 unfolding permits_in
 permits_lives none id = live_pure 0 true refl
-permits_lives (some l) id = live_bind (seek_lives _ (length l) 0 (length l)) (λ p. live_pure 0 (found? p) refl)
+permits_lives (some l) id = live_bind (seek_lives _ list_turns 0 (length l)) (λ p. live_pure 0 (found? p) refl)
 
 pub same_ids_live : (l r : List ℕ) → Lives 0 (λ _. 0) (same_ids l r)
 unfolding same_ids

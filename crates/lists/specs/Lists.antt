@@ -1,5 +1,6 @@
 -- Lists of constant ids, strictly increasing: their union, whether one has an id, and the charge of their entries.
-use Rattle.std.specs.Prelude.{ℕ, zero, suc, ◌+◌, min, Bool, true, false, cond, List, [], ◌∷◌, ◌++◌, ltb, leb, eqb, length, get_or}
+use Rattle.std.specs.Prelude.{ℕ, zero, suc, ◌+◌, min, Bool, true, false, cond, List, [], ◌∷◌, ◌++◌, ltb, leb, eqb, length, get_or, ◌≡◌, Result, Ok, Err}
+use Rattle.std.specs.List.{Contains}
 use Rattle.sizes.specs.Sizes as size
 use Rattle.std.proofs.Math.Option.{Option, some, none}
 use Rattle.limits.specs.declared.Stop.{Stop}
@@ -40,6 +41,10 @@ collect width kept (i ∷ l) = do
   fits ← take_one width (length kept)
   cond fits (collect width (kept ++ (i ∷ [])) l) (pure none)
 
+-- how many ids of a list are looked at, at most: 5 turns search less than 2^5 ids to the end
+abbrev pub list_turns : ℕ
+list_turns = 5
+
 -- `Abstract::permits`: a binary search, and yes where there is no list. `turns` bounds the ids that are looked at.
 unfoldable pub permits_in : ℕ → List ℕ → ℕ → Metered Stop Meter Bool
 permits_in turns l id = do
@@ -48,7 +53,12 @@ permits_in turns l id = do
 
 abbrev pub permits : Option (List ℕ) → ℕ → Metered Stop Meter Bool
 permits none id = pure true
-permits (some l) id = permits_in (length l) l id
+permits (some l) id = permits_in list_turns l id
+
+-- an answer that is yes exactly for an id in the list
+abbrev pub Tells : List ℕ → ℕ → Result Bool Stop → Type 0
+Tells l id (Ok told) = (told ≡ true → Contains l id) × (Contains l id → told ≡ true)
+Tells l id (Err stop) = Unit {0}
 
 -- two lists of one length, one unit of work for each id that is compared
 unfoldable pub same_ids : List ℕ → List ℕ → Metered Stop Meter Bool

@@ -3,9 +3,11 @@
 //! lattice.rs).
 #![tactic(auto)]
 
-ghost use Rattle.std.specs.Prelude.{◌≡◌, [], length};
+ghost use Rattle.std.specs.Prelude.{◌≡◌, ◌+◌, ◌≤◌, [], length};
+ghost use Rattle.integers.specs.Lists.{Increasing};
+ghost use Rattle.sizes.specs.Sizes as size;
 ghost use Rattle.limits.specs.Metered.{answered, seen};
-ghost use Rattle.lists.specs.Lists.{union, push, retain_all, take_one, collect, permits_in, same_ids};
+ghost use Rattle.lists.specs.Lists.{union, push, retain_all, take_one, collect, list_turns, permits_in, Tells, same_ids};
 ghost use Rattle.lists.specs.Ids.{next_of, past, merged};
 
 use limits::{Meter, Stop};
@@ -92,9 +94,14 @@ pub fn merge(
     Ok(Some(list))
 }
 
-// Whether a list has an id: a binary search.
+// Whether a list has an id: a binary search, at most 5 ids of which are looked at. On a list in order it says yes exactly for an id in the list; on
+// any list it answers and charges as a search that may look at all ids.
 pub fn permits_id(ids: &[u16], id: u16, meter: &mut Meter) -> Result<bool, Stop>
-    ensures { answered result meter.new ≡ permits_in (length ids.now) ids.now id meter.old }
+    requires { length ids.now ≤ size.width }
+    ensures is { answered result meter.new ≡ permits_in list_turns ids.now id meter.old }
+    ensures tells { Increasing ids.now → Tells ids.now id result }
+    ensures looks { meter.new.work ≤ meter.old.work + list_turns }
+    ensures whole { answered result meter.new ≡ permits_in (length ids.now) ids.now id meter.old }
 {
     let place = search::seek(ids.len(), |i| ids[i].cmp(&id), meter)?;
     Ok(place.is_ok())

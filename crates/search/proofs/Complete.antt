@@ -1,18 +1,20 @@
 -- A search is complete where the items stand in order: what it finds is equal, and what it does not find is nowhere.
-use Prim.Native.Nat.{ℕ, zero, suc, ◌+◌, ◌≤◌, ◌<◌}
+use Prim.Native.Nat.{ℕ, zero, suc, ◌+◌, ◌*◌, ◌^◌, ◌≤◌, ◌<◌}
 use native.Mathlib.Omega.{arith}
+use native.Mathlib.Nat.{pow-succ'}
 use native.Mathlib.Decide.{dec_lt}
-use mathlib.Core.Path.{◌≡◌, refl, sym, subst}
+use mathlib.Core.Path.{◌≡◌, refl, sym, ap, ◌∙◌, subst}
 use borrow.Author.Tests.{ltb-true, ltb-false}
 use lib.Dec.{ltb}
 use Rattle.limits.specs.declared.Stop.{Stop}
-use Rattle.limits.specs.Metered.{going, Metered}
+use Rattle.limits.specs.Metered.{going, Metered, ◌>>◌}
 use Rattle.limits.specs.declared.Meter.{Meter}
 use Rattle.limits.specs.Meter.{work}
 use Rattle.limits.proofs.Monad.{Holds, Ensures, weaken, by_pure, by_test, then, Steady, steady_pure, steady_unit, steady_test, steady_then}
 use Rattle.std.specs.declared.cmp.Ordering.{Ordering}
 use Rattle.std.specs.declared.cmp.Ordering.TheVariants.{Less, Equal, Greater}
 use Rattle.search.specs.Seek.{Place, found, absent, by, middle, seek}
+use Rattle.search.proofs.Turns.{nothing_left, turn}
 
 by_ordering : {P : Place → Type 0} (o : Ordering) {x y z : Metered Stop Meter Place} →
     (o ≡ Less → Ensures P x) → (o ≡ Equal → Ensures P y) → (o ≡ Greater → Ensures P z) → Ensures P (by o x y z)
@@ -44,13 +46,14 @@ module _ (probe : ℕ → Ordering) (n : ℕ) where
     above_more : (m : ℕ) → m < n → probe m ≡ Greater → Above m
     above_more m h e k l g = elim (dec_lt m k) [ yes b ↦ r.up m k b g e | no b ↦ subst (λ (j : ℕ). probe j ≡ Greater) (omega arith) e ]
 
-    ends : (f low high : ℕ) → low ≤ high → high ≤ n → high ≤ low + f → Below low → Above high → Ensures Ends (seek probe f low high)
+    ends : (f low high : ℕ) → low ≤ high → high ≤ n → high < low + 2 ^ f → Below low → Above high → Ensures Ends (seek probe f low high)
     unfolding seek
     ends zero low high h g k d u = by_pure (absent low) (omega arith, d, subst Above (omega arith) u)
     ends (suc f) low high h g k d u =
         by_test (ltb low high)
         (λ e.
         let z : low < high = ltb-true low high e in
+        let w : 2 ^ suc f ≡ 2 * 2 ^ f = pow-succ' 2 f in
         then (work 1)
         (by_ordering (probe (middle low high))
         (λ x. ends f (middle low high + 1) high (omega arith) g (omega arith) (below_more (middle low high) (omega arith) x) u)
@@ -59,8 +62,35 @@ module _ (probe : ℕ → Ordering) (n : ℕ) where
         (λ e. let z : high ≤ low = ltb-false low high e in by_pure (absent low) (omega arith, d, subst Above (omega arith) u))
 
     -- with turns enough
-    pub search_ends : (f : ℕ) → n ≤ f → Ensures Ends (seek probe f 0 n)
+    pub search_ends : (f : ℕ) → n < 2 ^ f → Ensures Ends (seek probe f 0 n)
     search_ends f h = ends f 0 n (omega arith) (omega arith) (omega arith) (λ k l. absurd (omega arith)) (λ k l m. absurd (omega arith))
+
+-- as many turns as items are enough
+pub enough : (n : ℕ) → n < 2 ^ n
+enough zero = omega arith
+enough (suc n) = let w : 2 ^ suc n ≡ 2 * 2 ^ n = pow-succ' 2 n in let h = enough n in omega arith
+
+-- ---- with turns enough, how many there are does not matter
+
+module _ (probe : ℕ → Ordering) where
+  by_both : {A : Type 0} (o : Ordering) {x x' z z' : A} (y : A) → x ≡ x' → z ≡ z' → by o x y z ≡ by o x' y z'
+  by_both Less y p q = p
+  by_both Equal y p q = refl
+  by_both Greater y p q = q
+
+  pub turns_same : (f g low high : ℕ) → high < low + 2 ^ f → high < low + 2 ^ g → seek probe f low high ≡ seek probe g low high
+  turns_same zero g low high h k = nothing_left probe low high zero (omega arith) ∙ sym (nothing_left probe low high g (omega arith))
+  turns_same (suc f) zero low high h k = nothing_left probe low high (suc f) (omega arith) ∙ sym (nothing_left probe low high zero (omega arith))
+  turns_same (suc f) (suc g) low high h k = elim (dec_lt low high) [
+    | yes l ↦
+        let v : 2 ^ suc f ≡ 2 * 2 ^ f = pow-succ' 2 f in
+        let w : 2 ^ suc g ≡ 2 * 2 ^ g = pow-succ' 2 g in
+        turn probe low high f l refl
+        ∙ ap (λ (d : Metered Stop Meter Place). work 1 >> d)
+        (by_both (probe (middle low high)) _ (turns_same f g (middle low high + 1) high (omega arith) (omega arith)) (turns_same f g low (middle low high) (omega arith) (omega arith)))
+        ∙ sym (turn probe low high g l refl)
+    | no l ↦ nothing_left probe low high (suc f) (omega arith) ∙ sym (nothing_left probe low high (suc g) (omega arith))
+  ]
 
 -- ---- where a search ends does not depend on the counts
 
@@ -103,5 +133,5 @@ seek_within probe (suc f) low high h =
     (λ _. weaken (λ p. wider (omega arith) p) (seek_within probe f low (middle low high) (omega arith)))))
     (λ _. by_pure (absent low) h)
 
-pub absent_within : (probe : ℕ → Ordering) (n : ℕ) (m : Meter) {i : ℕ} {m' : Meter} → going (absent i) m' ≡ seek probe n 0 n m → i ≤ n
-absent_within probe n m e = subst (Holds (Within n)) (sym e) ((seek_within probe n 0 n (omega arith)).at m)
+pub absent_within : (probe : ℕ → Ordering) (turns n : ℕ) (m : Meter) {i : ℕ} {m' : Meter} → going (absent i) m' ≡ seek probe turns 0 n m → i ≤ n
+absent_within probe turns n m e = subst (Holds (Within n)) (sym e) ((seek_within probe turns 0 n (omega arith)).at m)

@@ -48,5 +48,5 @@ compareℤ = int_cmp
 pub record Computes (post : ℕ → Ordering → Type 0) (n : ℕ) (p : ℕ → Ordering) : Type 0 where
   pub at : (i : ℕ) (r : Ordering) → i < n → post i r → r ≡ p i
 
-abbrev pub Seeks : (ℕ → Ordering) → ℕ → Result Place Stop → Meter → Meter → Type 0
-Seeks p n r old new = answered r new ≡ seek p n 0 n old
+abbrev pub Seeks : (ℕ → Ordering) → ℕ → ℕ → Result Place Stop → Meter → Meter → Type 0
+Seeks p turns n r old new = answered r new ≡ seek p turns 0 n old

@@ -133,7 +133,7 @@ module _ (w : Scene) (n slot : ℕ) (l : slot < n) where
         weaken (λ x h. record { tidy = h.0; formed = h.1.0; lies = h.1.1 })
         (both (meet_tidy w.constants u v p.tidy q.tidy)
         (both (meet_formed w.constants small u v p.formed q.formed)
-        (meet_lies w.key w.constants w.keys u v p.tidy.sorted q.tidy.sorted (w.slots slot) (w.proper slot) p.lies q.lies)))
+        (meet_lies w.key w.constants w.keys u v p.tidy q.tidy (w.slots slot) (w.proper slot) p.lies q.lies)))
 
     pub keeps_meet : (v : Value) → Good w slot v → Keeps (Held w n) (meet_into w.constants slot v)
     keeps_meet v q = keeps_replace (λ old. meet w.constants old v) (λ old p. meet_good old v p q)

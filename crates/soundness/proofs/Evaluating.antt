@@ -321,7 +321,7 @@ module _ (w : Scene) (small : All (λ k. k < 2 ^ 32) w.constants) (id : ℕ) whe
       let q' : Worth w ch id (number n.0) = q ∙ ap some p in
       let inside : cousot r.restriction ∋ n.0 = h.at ch pch n.0 (subst (λ (j : ℕ). Worth w ch j (number n.0)) (sym e) q') in
       subst (λ (j : Key). Ensures (λ u. Lies w.key w.constants u j) (refine w.constants v r.restriction)) (sym p)
-      (refine_lies w.key w.constants w.keys v s.tidy.sorted r.restriction n.0 (worth_proper w ch pch id (number n.0) q') inside
+      (refine_lies w.key w.constants w.keys v s.tidy r.restriction n.0 (worth_proper w ch pch id (number n.0) q') inside
       (subst (Lies w.key w.constants v) p c))))))
       (λ _. by_pure v s)
 

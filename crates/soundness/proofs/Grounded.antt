@@ -13,7 +13,7 @@ use Rattle.sizes.specs.Sizes.{value_row}
 use Rattle.rows.specs.Row.{value_at}
 use Rattle.rows.specs.WellFormed.{Short}
 use Rattle.rows.proofs.Good.{Good}
-use Rattle.lattice.proofs.Joins.{Small}
+use Rattle.lists.proofs.ListLaws.{Small}
 use Rattle.keys.specs.Key.{Key}
 use Rattle.rules.specs.declared.Head.{Head}
 use Rattle.rules.specs.Read.{bindings_at, guards_at, heads_at}

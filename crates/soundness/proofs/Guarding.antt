@@ -154,7 +154,7 @@ module _ (w : Scene) (small : All (λ c. c < 2 ^ 32) w.constants) (n : ℕ) wher
       (both (refine_tidy w.constants v j g.tidy)
       (both (refine_formed w.constants small v j g.formed p)
       (subst (λ (x : Key). Ensures (λ u. Lies w.key w.constants u x) (refine w.constants v j)) (sym e)
-      (refine_lies w.key w.constants w.keys v g.tidy.sorted j k (subst ProperKey e (w.proper slot)) m (subst (Lies w.key w.constants v) e g.lies))))))
+      (refine_lies w.key w.constants w.keys v g.tidy j k (subst ProperKey e (w.proper slot)) m (subst (Lies w.key w.constants v) e g.lies))))))
 
   slot_number : (slot : ℕ) (k : ℤ) → w.slots slot ≡ number k → Number k
   slot_number slot k e = subst ProperKey e (w.proper slot)

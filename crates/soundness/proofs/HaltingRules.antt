@@ -28,7 +28,7 @@ use Rattle.interval.specs.Bound.{bottom_bound, same_bound, allows_of}
 use Rattle.std.specs.declared.cmp.Ordering.{Ordering}
 use Rattle.std.specs.declared.cmp.Ordering.TheVariants.{Less, Equal, Greater}
 use Rattle.search.specs.Seek.{Place, by, middle, seek}
-use Rattle.lists.specs.Lists.{union, push, retain_all, take_one, collect, permits_in, permits, same_ids}
+use Rattle.lists.specs.Lists.{union, push, retain_all, take_one, collect, list_turns, permits_in, permits, same_ids}
 use Rattle.lattice.specs.Value.{Reason}
 use Rattle.lattice.specs.Value.{Value}
 use Rattle.lattice.specs.Constants.{constant_at}
@@ -182,7 +182,7 @@ collect_halts width kept (i ∷ l) = halts_bind (take_halts width (length kept))
 permits_halts : (o : Option (List ℕ)) (id : ℕ) → Frugal (permits o id)
 unfolding permits_in
 permits_halts none id = halts_pure _
-permits_halts (some l) id = halts_bind (seek_halts (inl refl) _ (length l) 0 (length l)) (λ p. halts_pure _)
+permits_halts (some l) id = halts_bind (seek_halts (inl refl) _ list_turns 0 (length l)) (λ p. halts_pure _)
 
 same_ids_lem : (l r : List ℕ) → Frugal (same_ids l r)
 unfolding same_ids

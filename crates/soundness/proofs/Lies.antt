@@ -13,7 +13,7 @@ use Rattle.interval.specs.declared.Constant.{Constant}
 use Rattle.interval.specs.declared.Constant.TheVariants.{Number as number, Name, Large}
 use Rattle.interval.specs.Cousot.{◌∋◌}
 use Rattle.interval.specs.Interval.{cousot}
-use Rattle.lists.proofs.ListLaws.{Sorted}
+use Rattle.lists.proofs.ListLaws.{Searchable}
 use Rattle.lattice.specs.Value.{Reason}
 use Rattle.lattice.specs.Value.{Value}
 use Rattle.lattice.specs.Constants.{constant_at}
@@ -111,12 +111,12 @@ module _ (key : ℕ → Option Key) (cells : List ℕ) where
         fit (keys.number z) n e p = let f : z ≡ n = cc in subst Number f p
         fit (name s) n e p = let y : ◌≡◌ {A = ℕ} 0 1 = cc in absurd (omega arith)
 
-    pub meet_lies : (u v : Value) → Sorted u.values → Sorted v.values → (k : Key) → ProperKey k → Lies key cells u k → Lies key cells v k →
+    pub meet_lies : (u v : Value) → Searchable u.values → Searchable v.values → (k : Key) → ProperKey k → Lies key cells u k → Lies key cells v k →
         Ensures (λ w. Lies key cells w k) (meet cells u v)
     meet_lies u v su sv k p a b =
         weaken (λ w. from_in k p w) (members.meet_in num Stands cells keyed u v su sv (with_proper k p) (to_in k p u a) (to_in k p v b))
 
-    pub refine_lies : (v : Value) → Sorted v.values → (i : Interval) (n : ℤ) → Number n → cousot i ∋ n → Lies key cells v (keys.number n) →
+    pub refine_lies : (v : Value) → Searchable v.values → (i : Interval) (n : ℤ) → Number n → cousot i ∋ n → Lies key cells v (keys.number n) →
         Ensures (λ w. Lies key cells w (keys.number n)) (refine cells v i)
     refine_lies v s i n p m h =
         weaken (λ w. from_in (keys.number n) p w)

@@ -38,7 +38,7 @@ module _ (v : ℤ) (b : Budget) (n : ℕ) (t : List ℤ) (m : Meter) {r : Result
   module _ {p : Place} {low : ℕ} (e : r ≡ Ok p) (f : p ≡ absent low) where
     pub place_within : low ≤ n
     unfolding seek_number
-    place_within = absent_within (against t v) n (meter_of b) (answering.went h (e ∙ ap Ok f))
+    place_within = absent_within (against t v) n n (meter_of b) (answering.went h (e ∙ ap Ok f))
 
     pub enter_unpaid : {s : Stop} {c : Budget} → stopped s c ≡ cost (n - low + 1) b' → stopped s (entry c n t) ≡ enter v (entry b n t)
     unfolding enter settle ◌>>◌ ◌>>=◌ after through mapped

@@ -21,7 +21,7 @@ use Rattle.limits.proofs.Live.{LiveIn}
 use Rattle.std.specs.declared.cmp.Ordering.{Ordering}
 use Rattle.search.proofs.Live.{seek_lives}
 use Rattle.search.specs.Seek.{Place, found, absent, seek}
-use Rattle.search.proofs.Complete.{Rising, Ends, Within, search_ends, seek_within}
+use Rattle.search.proofs.Complete.{Rising, Ends, Within, search_ends, enough, seek_within}
 use Rattle.thresholds.specs.Thresholds.{Entry, entry, against, seek_number, cost, insert, settle, enter, enter_number}
 
 -- all that the two budgets share: the limits, and every count but work and links
@@ -117,7 +117,7 @@ module _ (v : ℤ) (s : Entry) where
   enter_leaves =
       searched (seek probe s.count 0 s.count (meter_of s.budget))
       ((seek_within probe s.count 0 s.count (omega arith)).at (meter_of s.budget))
-      ((for_all {P = λ (r : Rising probe s.count) (p : Place). Ends probe s.count p} (λ r. search_ends probe s.count r s.count (omega arith))).at (meter_of s.budget))
+      ((for_all {P = λ (r : Rising probe s.count) (p : Place). Ends probe s.count p} (λ r. search_ends probe s.count r s.count (enough s.count))).at (meter_of s.budget))
       ((seek_lives probe s.count 0 s.count).at s.budget.statistics.entries (meter_of s.budget) (omega arith))
 
   -- ---- at most one more
