@@ -1,3 +1,4 @@
 pub mod LineLaws
 pub mod ReportLaws
 pub mod Singles
+pub mod Seen

@@ -1,3 +1,4 @@
 pub mod Line
 pub mod Report
 pub mod Places
+pub mod Seen

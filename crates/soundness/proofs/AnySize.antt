@@ -185,17 +185,17 @@ module _ (s s' : State) (h : Beside s s') where
   store_together (both_go p) = record { answer = refl; after = p }
   store_together (both_stop p) = record { answer = refl; after = p }
 
-  run_kept : (u : engine.Tables) → Beside (from_run u s) (from_run u s')
+  pub run_kept : (u : engine.Tables) → Beside (from_run u s) (from_run u s')
   run_kept u = record { header = refl; predicates = h.predicates; names = h.names; constants = h.constants; order = h.order; thresholds = λ _. refl; nodes = h.nodes; seeds = h.seeds; records = h.records; rules = h.rules; arguments = λ _. refl; slots = λ _. refl }
 
   run_together : (x : Run Told engine.Tables (Unit {0})) → Together (on_run s x) (on_run s' x)
   run_together (going a u) = record { answer = refl; after = run_kept u }
   run_together (stopped e u) = record { answer = refl; after = run_kept u }
 
-  abbrev call_of : State → Working → Run Told engine.Tables (Unit {0})
+  abbrev pub call_of : State → Working → Run Told engine.Tables (Unit {0})
   call_of s w = run_call (read s.tables.nodes s.tables.constants s.tables.rules s.tables.seeds) w (for_run s)
 
-  run_same : (w : Working) → fits_run w s ≡ true → call_of s w ≡ call_of s' w
+  pub run_same : (w : Working) → fits_run w s ≡ true → call_of s w ≡ call_of s' w
   run_same w e =
       let nodes = eqb (length s.tables.nodes) size.node_cells in
       let constants = eqb (length s.tables.constants) size.constant_cells in

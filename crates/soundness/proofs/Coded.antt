@@ -4,6 +4,7 @@ use mathlib.Core.Bool.{Bool, true, false}
 use mathlib.Core.List.{List, [], ◌∷◌}
 use Rattle.integers.specs.Lists.{All}
 use Rattle.std.specs.Prelude.{Result, Ok, Err}
+use Rattle.limits.specs.declared.Limits.{Limits}
 use Rattle.limits.specs.declared.Refusal.{Refusal}
 use Rattle.limits.specs.Refusal.{Told, replied}
 use Rattle.limits.specs.Metered.{Run, Metered, pure, after, ◌>>=◌, mapped, through}
@@ -32,7 +33,7 @@ use Rattle.limits.specs.Refusal.{told}
 use Rattle.soundness.specs.Fits.{fits}
 use Rattle.soundness.specs.Run.{Accepted, accepted, learned}
 use Rattle.soundness.specs.Claim.{Typed}
-use Rattle.soundness.specs.Code.{tells, leaves, Exchange, context, work, predicate, argument, constant, expression, seed_value, seed_interval, rule, run, reading, Reads, shown_tells, context_count, slot, key, name, status, Exchanges, none, next, other, Demand3Code}
+use Rattle.soundness.specs.Code.{tells, leaves, Exchange, context, work, predicate, argument, constant, expression, seed_value, seed_interval, rule, run, reading, Reads, shown_tells, context_count, slot, key, name, status, Exchanges, none, next, other, Begins, Demand3Code}
 use Rattle.soundness.proofs.AnySize.{unfit_step, fit_step, Beside, Echoes, echo_none, echo_refused, echo_made, mend, mend_beside}
 use Rattle.soundness.proofs.Theorem.{echoes_sound}
 
@@ -103,13 +104,17 @@ exchanges_echo {s} (other {x = x} {y = y} {c = c} {a = a} {es = es} f e r xs) t 
     subst (λ (b : calls.Answer). Echoes p (event c b ∷ es) s') (sym (ap (λ (d : Stepped). d.answer) i))
     (echo_refused c (told Shape) (exchanges_echo xs t.1 p s' (subst (λ (v : Store). Beside (leaves s (with_header v s.tables)) s') (sym same) h)))
 
--- demand 3, for every list of raw states whose neighbours are as the entry points ensure
-pub sound_code : Demand3Code
-sound_code o l _ _ (code.fresh r₀ h₀ f) s lent es x typed fs a k reached v m =
-    let h : h₀ ≡ header_of (fresh_of l) = header h₀ r₀ ∙ ap header_of f in
-    echoes_sound o l s lent es
-    (exchanges_echo x typed (accepted [] [] [] []) (fresh l (mend s)) (subst (λ (u : Store). Beside (leaves s (with_header u s.tables)) (fresh l (mend s))) (sym h) (mend_beside s l))) fs a k reached v m
+-- the header that `fresh` hands back
+pub begun_header : {l : Limits} {a : calls.Answer} {header' : Store} → Begins l a header' → header' ≡ header_of (fresh_of l)
+begun_header {l} (code.fresh r header' f) = header header' r ∙ ap header_of f
   where
     header : (t : Store) (r : Result (Unit {0}) Refusal) → t ≡ header_of (replied r t)
     header t (Ok u) = refl
     header t (Err y) = refl
+
+-- demand 3, for every list of raw states whose neighbours are as the entry points ensure
+pub sound_code : Demand3Code
+sound_code o l a₀ h₀ b s lent es x typed fs a k reached v m =
+    echoes_sound o l s lent es
+    (exchanges_echo x typed (accepted [] [] [] []) (fresh l (mend s))
+    (subst (λ (u : Store). Beside (leaves s (with_header u s.tables)) (fresh l (mend s))) (sym (begun_header b)) (mend_beside s l))) fs a k reached v m

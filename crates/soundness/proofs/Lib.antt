@@ -25,3 +25,4 @@ pub mod Halting
 pub mod Coded
 pub mod Stopping
 pub mod Numbers
+pub mod Total

@@ -10,6 +10,7 @@ use mathlib.Core.List.{List, [], ◌∷◌}
 use mathlib.Core.Option.{none}
 use lib.IntN.{ℤ}
 use lib.ListN.{length, take, replicate, length-replicate}
+use lib.Seq.{length-sets}
 use Rattle.integers.specs.Order.{Number}
 use Rattle.integers.specs.Lists.{All}
 use Rattle.integers.proofs.Stores.{all_take}
@@ -17,7 +18,7 @@ use Rattle.limits.specs.declared.Stop.{Stop}
 use Rattle.limits.specs.Metered.{Run}
 use Rattle.limits.proofs.Ends.{Ends, completes, stops, ends_as}
 use Rattle.sizes.specs.Sizes.{value_row}
-use Rattle.rows.specs.Row.{entries_of, value_at, moved}
+use Rattle.rows.specs.Row.{padded, entries_of, value_at, moved}
 use Rattle.keys.specs.Key.{Key}
 use Rattle.thresholds.specs.Thresholds.{entry}
 use Rattle.limits.specs.Context.{Context}
@@ -25,7 +26,7 @@ use Rattle.store.specs.declared.Phase.TheVariants.{Completed, Stopped}
 use Rattle.slots.specs.Slots.{blank, total}
 use Rattle.integers.proofs.Totals as totals
 use Rattle.seeds.proofs.Seeded.{entries_in}
-use Rattle.slots.proofs.Moved.{moved_row, moved_total}
+use Rattle.slots.proofs.Moved.{length_moved, moved_row, moved_total}
 use Rattle.slots.proofs.Copied.{Same}
 use Rattle.rounds.proofs.Live.{Room, blank_formed}
 use Rattle.engine.specs.Run.{Beginning, beginning, Progress, progress, finish}
@@ -102,8 +103,9 @@ module _ {p : Accepted} {t : input.Tables} (g : Grounded p t) where
 
   -- what a run leaves: u from the state s that it was lent
   pub data Ran (s u : Tables) : Type 0 where
-    ended : u.header.phase ≡ Completed → u.header.counts.positions ≡ n → u.header.budget.statistics.entries ≡ total u.arguments n → ((o : Opaque) → Holds o u.arguments) → Ran s u
-    halted : {e : Stop} {c : Context} → u.header.phase ≡ Stopped e c → u.header.budget.statistics.entries ≡ total t.seeds n → u.arguments ≡ s.arguments → u.slots ≡ s.slots → Ran s u
+    ended : u.header.phase ≡ Completed → u.header.counts.positions ≡ n → u.header.budget.statistics.entries ≡ total u.arguments n → ((o : Opaque) → Holds o u.arguments) →
+        length u.arguments ≡ length s.arguments → length u.slots ≡ length s.slots → Ran s u
+    halted : {e : Stop} {c : Context} → u.header.phase ≡ Stopped e c → u.header.counts.positions ≡ n → u.header.budget.statistics.entries ≡ total t.seeds n → u.arguments ≡ s.arguments → u.slots ≡ s.slots → Ran s u
 
   module _ (numbers : All Number t.thresholds) (few : t.header.counts.thresholds + 2 ≤ length t.thresholds) (arguments slots : List ℕ) (roomy : value_row * n ≤ length arguments) where
     abbrev lent : Tables
@@ -124,8 +126,9 @@ module _ {p : Accepted} {t : input.Tables} (g : Grounded p t) where
         Ran lent (concluded t.seeds m marks lent x)
     conclude_sound th all m marks x (completes {a = a} {s = u} h) =
         ended refl refl (omega (arith, h.0.live, seeds_live, moved_total u.current arguments h.0.room.1 n roomy))
-        (λ o. holds_as o u.current (moved u.current n arguments) (λ j l. moved_row u.current arguments h.0.room.1 n j roomy l) (h.1 o))
-    conclude_sound th all m marks x (stops {e = r} {s = u} h) = halted refl (omega (arith, seeds_live)) refl refl
+        (λ o. holds_as o u.current (moved u.current n arguments) (λ j l. moved_row u.current arguments h.0.room.1 n j roomy l) (h.1 o)) (length_moved u.current arguments n)
+        (length-sets slots 0 (padded (size.bounds_row * t.header.counts.rules) u.bounds))
+    conclude_sound th all m marks x (stops {e = r} {s = u} h) = halted refl refl (omega (arith, seeds_live)) refl refl
 
     pub ran_sound : Ran lent (ran_on (given_of (read t.nodes t.constants t.rules t.seeds) t.header) lent)
     unfolding ran_on
@@ -146,4 +149,4 @@ module _ {p : Accepted} {t : input.Tables} (g : Grounded p t) where
             let at = progress b.entry.budget t.header.context b.current b.growth (replicate (size.bounds_row * t.header.counts.rules) 0) in
             conclude_sound th all b.entry.count b.entry.table _
             (ends_all (λ o _ u. Holds o u.current) (finish_sound th all e some_opaque at h.0) (λ o. ends_as (finish_sound th all e o at h.0) (λ _ u q. q.holds) (λ _ _ _. tt)))
-        go x (stops h) = halted refl (h ∙ seeds_live) refl refl
+        go x (stops h) = halted refl refl (h ∙ seeds_live) refl refl

@@ -5,6 +5,7 @@ use Prim.Native.Nat.{ℕ, ◌≤◌, ◌<◌}
 use native.Mathlib.Omega.{arith}
 use mathlib.Core.Path.{◌≡◌, refl, sym, ap, subst, ◌∙◌}
 use mathlib.Core.Bool.{Bool, true, false, cond, ◌&&◌}
+use mathlib.Core.Logic.{◌⊎◌, inl, inr, ⊎_elim}
 use mathlib.Core.List.Memᴰ
 use mathlib.Core.List.{List, [], ◌∷◌, Memᴰ}
 use mathlib.Core.Option.{Option, some, none}
@@ -91,7 +92,7 @@ reads s a v = go (eqb (length s.arguments) size.argument_cells) s.tables.header.
 
 -- ---- a store that is not open: nothing is said and nothing changes
 
-reading_after : (s : State) (r : Reading Shown) → (on_reading s r).after ≡ s
+pub reading_after : (s : State) (r : Reading Shown) → (on_reading s r).after ≡ s
 reading_after s (given a) = refl
 reading_after s (readings.refused e) = refl
 
@@ -148,45 +149,46 @@ module _ (ties : (c : input.Call) → input.Typed c → (p : Accepted) (t : inpu
     (ground : (p : Accepted) (t : input.Tables) → Tied p t → Grounded p t) where
   module _ (p : Accepted) (s : State) (opened : s.tables.header.phase ≡ Open) (tied : Tied p s.tables) where
     -- a call is accepted or refused
+    pub store_keeps : (c : input.Call) → input.Typed c → Ends (λ r u. Tied (said p c r) u × (u.header.phase ≡ Open)) (λ _ u. Tied p u × (u.header.phase ≡ Open)) (input.call c s.tables)
+    store_keeps c h =
+        ends_both (ties c h p s.tables tied)
+        (ends_as (ends_both (call_phase s.tables tied.reached c h) (call_keeps c h s.tables tied.reached))
+        (λ _ u q. q.0 ∙ opened) (λ _ u q. q.1.leaves.header.phase ∙ opened))
+
     store_stands : (c : input.Call) → input.Typed c → Stands (learned p (store c) (step (store c) s).answer) (step (store c) s).after
     unfolding step
-    store_stands c h = go (input.call c s.tables) (ends_both (ties c h p s.tables tied) (phase c h))
+    store_stands c h = go (input.call c s.tables) (store_keeps c h)
       where
-        phase : (c : input.Call) → input.Typed c → Ends (λ _ u. u.header.phase ≡ Open) (λ _ u. u.header.phase ≡ Open) (input.call c s.tables)
-        phase c h =
-            ends_as (ends_both (call_phase s.tables tied.reached c h) (call_keeps c h s.tables tied.reached))
-            (λ _ u q. q.0 ∙ opened) (λ _ u q. q.1.leaves.header.phase ∙ opened)
-
         go : (x : Run Told input.Tables input.Reply) → Ends (λ r u. Tied (said p c r) u × (u.header.phase ≡ Open)) (λ _ u. Tied p u × (u.header.phase ≡ Open)) x → Stands (learned p (store c) (on_store s x).answer) (on_store s x).after
         go x (completes q) = building q.1 q.0
         go x (stops q) = building q.1 q.0
 
     -- the run is taken, and completes or is stopped; or it is refused, and nothing has changed
-    run_stands : (w : Working) → Stands (learned p (run w) (step (run w) s).answer) (step (run w) s).after
-    unfolding step run_call
-    run_stands w =
-        go (run_call tables w (for_run s))
-        (ends_test (run_sized s w)
+    pub run_runs : (w : Working) → Ends (λ _ u. Ran (ground p s.tables tied) (for_run s) u) (λ _ u. u ≡ for_run s) (run_call (read s.tables.nodes s.tables.constants s.tables.rules s.tables.seeds) w (for_run s))
+    unfolding run_call
+    run_runs w =
+        ends_test (run_sized s w)
         (λ z.
-        ends_test (open? s.tables.header) (λ _. ends_test (spacious s.tables.header.counts) (λ q. completes (ran z q)) (λ _. stops refl)) (λ _. stops refl)) (λ _. stops refl))
+        ends_test (open? s.tables.header) (λ _. ends_test (spacious s.tables.header.counts) (λ q. completes (ran z q)) (λ _. stops refl)) (λ _. stops refl)) (λ _. stops refl)
       where
-        tables : engine.Read
-        tables = read s.tables.nodes s.tables.constants s.tables.rules s.tables.seeds
-
         ran : run_sized s w ≡ true →
-            spacious s.tables.header.counts ≡ true → Ran (ground p s.tables tied) (for_run s) (ran_on (given_of tables s.tables.header) (for_run s))
+            spacious s.tables.header.counts ≡ true → Ran (ground p s.tables tied) (for_run s) (ran_on (given_of (read s.tables.nodes s.tables.constants s.tables.rules s.tables.seeds) s.tables.header) (for_run s))
         ran z q =
             let wide : length s.arguments ≡ size.argument_cells = eqb-true (length s.arguments) size.argument_cells (and_left _ (eqb (length s.slots) size.bounds_cells) (and_left (results_sized (length s.arguments) (length s.slots)) _ (and_right (sized (length s.tables.nodes) (length s.tables.constants) (length s.tables.rules) (length s.tables.seeds) (length s.tables.thresholds)) _ z))) in
             let few : s.tables.header.counts.thresholds ≤ size.thresholds_before_run =
             leb-true s.tables.header.counts.thresholds size.thresholds_before_run (and_right (leb s.tables.header.counts.rules 256) _ (and_right (leb s.tables.header.counts.positions 256) _ q)) in
             ran_sound (ground p s.tables tied) tied.numbers (omega (arith, tied.reached.sized.thresholds)) s.arguments s.slots (omega (arith, tied.reached.counted.positions))
 
+    run_stands : (w : Working) → Stands (learned p (run w) (step (run w) s).answer) (step (run w) s).after
+    unfolding step
+    run_stands w = go (run_call (read s.tables.nodes s.tables.constants s.tables.rules s.tables.seeds) w (for_run s)) (run_runs w)
+      where
         go : (x : Run Told engine.Tables (Unit {0})) → Ends (λ _ u. Ran (ground p s.tables tied) (for_run s) u) (λ _ u. u ≡ for_run s) x → Stands p (on_run s x).after
-        go x (completes {s = u} (ended ph n live holds)) = complete ph (λ o fs a k y. inside u n (holds o fs a k y))
+        go x (completes {s = u} (ended ph n live holds wide long)) = complete ph (λ o fs a k y. inside u n (holds o fs a k y))
           where
             inside : {a : ℕ} {k : Key} (u : engine.Tables) → u.header.counts.positions ≡ s.tables.header.counts.positions → Inside p s.tables u.arguments a k → Inside p (from_run u s).tables u.arguments a k
             inside u n i = record { below = omega (arith, i.below); proper = i.proper; lies = i.lies }
-        go x (completes {s = u} (halted ph live a b)) = without (rw ph refl) (λ h. let z : ◌≡◌ {A = ℕ} 0 1 = cc in omega arith)
+        go x (completes {s = u} (halted ph n live a b)) = without (rw ph refl) (λ h. let z : ◌≡◌ {A = ℕ} 0 1 = cc in omega arith)
         go x (stops {s = u} h) = subst (λ (v : engine.Tables). Stands p (from_run v s)) (sym h) (building opened tied)
 
   step_stands : (c : Call) → Typed c → (p : Accepted) (s : State) → Stands p s → Stands (learned p c (step c s).answer) (step c s).after
@@ -220,7 +222,7 @@ module _ (ties : (c : input.Call) → input.Typed c → (p : Accepted) (t : inpu
 
 -- ---- from a fresh store
 
-call_ties : (c : input.Call) → input.Typed c → (p : Accepted) (t : input.Tables) → Tied p t → Ends (λ r u. Tied (said p c r) u) (λ _ u. Tied p u) (input.call c t)
+pub call_ties : (c : input.Call) → input.Typed c → (p : Accepted) (t : input.Tables) → Tied p t → Ends (λ r u. Tied (said p c r) u) (λ _ u. Tied p u) (input.call c t)
 call_ties (input.context c) h p t k = context_ties c h p t k
 call_ties (input.work n) h p t k = work_ties n p t k
 call_ties (input.predicate arity) h p t k = predicate_ties arity p t k
@@ -249,8 +251,12 @@ fresh_tied l t e c x sizes z = record {
   seeds = record { at = λ a k q. absurd (Memᴰ.not-nil q.among) };
 }
 
-fresh_stands : (l : Limits) (s : State) → Sized s.tables → Lent s.tables → Stands (accepted [] [] [] []) (fresh l s)
-fresh_stands l s sizes z = go (leb l.width 16) refl
+-- a store is open from its beginning, or there is none
+abbrev pub Begun : State → Type 0
+Begun s = ((s.tables.header.phase ≡ Open) × Tied (accepted [] [] [] []) s.tables) ⊎ (s.tables.header.phase ≡ Absent)
+
+pub fresh_begins : (l : Limits) (s : State) → Sized s.tables → Lent s.tables → Begun (fresh l s)
+fresh_begins l s sizes z = go (leb l.width 16) refl
   where
     sized_as : (h : Store) → Sized (input.with_header h s.tables)
     sized_as h = record {
@@ -265,10 +271,15 @@ fresh_stands l s sizes z = go (leb l.width 16) refl
       rules = sizes.rules;
     }
 
-    go : (b : Bool) → leb l.width 16 ≡ b → Stands (accepted [] [] [] []) (state (input.with_header (header_of (cond b (going (tt {0}) (empty l Open)) (stopped (told Shape) (empty l Absent)))) s.tables) s.arguments s.slots)
+    go : (b : Bool) → leb l.width 16 ≡ b → Begun (state (input.with_header (header_of (cond b (going (tt {0}) (empty l Open)) (stopped (told Shape) (empty l Absent)))) s.tables) s.arguments s.slots)
     go true e =
-        building refl (fresh_tied l (input.with_header (empty l Open) s.tables) (fresh_open l (leb-true l.width 16 e)) refl refl (sized_as (empty l Open)) record { cells = z.cells; numbers = z.numbers })
-    go false e = without refl (λ h. let y : ◌≡◌ {A = ℕ} 0 1 = cc in omega arith)
+        inl
+        (refl, fresh_tied l (input.with_header (empty l Open) s.tables) (fresh_open l (leb-true l.width 16 e)) refl refl (sized_as (empty l Open)) record { cells = z.cells; numbers = z.numbers })
+    go false e = inr refl
+
+fresh_stands : (l : Limits) (s : State) → Sized s.tables → Lent s.tables → Stands (accepted [] [] [] []) (fresh l s)
+fresh_stands l s sizes z =
+    ⊎_elim (λ q. building q.0 q.1) (λ e. without (rw e refl) (λ h. let y : ◌≡◌ {A = ℕ} 0 1 = cc in omega arith)) (fresh_begins l s sizes z)
 
 -- what another store, whose tables have their sizes, hears and shows of some calls from its beginning
 pub echoes_sound : (o : Opaque) (l : Limits) (s : State) → Lent s.tables → (es : List Event) → Echoes (accepted [] [] [] []) es (fresh l (mend s)) → (fs : List Firing) (a : ℕ) (k : Key) → Reaches o (heard es) fs a k →

@@ -6,3 +6,4 @@ pub mod Claim
 pub mod Code
 pub mod Example
 pub mod Numbers
+pub mod Total
