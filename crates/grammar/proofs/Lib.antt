@@ -1,0 +1,10 @@
+pub mod Examples
+pub mod Following
+pub mod Parts
+pub mod Atoms
+pub mod Facts
+pub mod Rules
+pub mod Complete
+pub mod OneReading
+pub mod Once
+pub mod Sound

@@ -1,0 +1,5 @@
+pub mod Bytes
+pub mod Grammar
+pub mod Errors
+pub mod Example
+pub mod Reader
