@@ -23,7 +23,7 @@ and_taken (some a) k e = (a, (refl, e))
 
 -- ---- steps of a part are steps of what it is a part of
 
-follow_lifted : {Z Y : Type 0} (f : Z → Class → Option Z) (k : Y → Class → Option Y) (h : Z → Y) → ((z : Z) (c : Class) (y : Z) → f z c ≡ some y → k (h z) c ≡ some (h y)) →
+pub follow_lifted : {Z Y : Type 0} (f : Z → Class → Option Z) (k : Y → Class → Option Y) (h : Z → Y) → ((z : Z) (c : Class) (y : Z) → f z c ≡ some y → k (h z) c ≡ some (h y)) →
     (z : Z) (s : List ℕ) (y : Z) → follow f z s ≡ some y → follow k (h z) s ≡ some (h y)
 unfolding follow
 follow_lifted f k h g z [] y e = ap (λ o. and_then o (λ x. some (h x))) e

@@ -1,9 +1,12 @@
 -- The examples are good trees of these texts, and the reader reads them so; texts that are none are dead at the byte that is told.
 use Rattle.std.specs.Prelude.{ℕ, ◌≡◌, ◌++◌, refl, List, [], ◌∷◌, codes, replicate}
-use Rattle.std.proofs.Math.Option.{Option, some}
+use Rattle.std.proofs.Math.Option.{Option, some, none}
 use Rattle.grammar.specs.Grammar.{print, bytes, next_pieces, sentences_pieces, sum_pieces}
+use Rattle.integers.specs.Order.{number?}
+use Rattle.grammar.specs.Errors.{number_on}
 use Rattle.grammar.specs.Example.{example, facts}
-use Rattle.grammar.specs.Reader.{class_of, step, run, and_then, read, lives, beginning}
+use Rattle.grammar.specs.Reader.{class_of, step, run, and_then, read, lives, beginning, turned_down}
+use Rattle.grammar.proofs.Literals.{outside_from, outside_places}
 
 pub example_print : print example ≡ codes "p(X+1) :- p(X), X < 10."
 unfolding print bytes next_pieces sentences_pieces sum_pieces
@@ -86,3 +89,49 @@ table =
 table_right : Every table
 unfolding Every table
 table_right = (refl, (refl, (refl, (refl, (refl, (refl, (refl, (refl, (refl, (refl, (refl, (refl, (refl, (refl, (refl, (refl, (refl, (refl, (refl, (refl, (refl, (refl, (refl, (refl, (refl, (refl, (refl, (refl, (refl, (refl, (refl, (refl, (refl, (refl, (refl, (refl, (refl, tt)))))))))))))))))))))))))))))))))))))
+
+-- ---- where a file is turned down
+
+place : List ℕ → Option ℕ
+unfolding class_of step run read lives
+place s = turned_down s
+
+whole_place : place (codes "p(1).") ≡ none
+unfolding place
+whole_place = refl
+
+dead_place : place (codes "p(1). Q") ≡ some 6
+unfolding place
+dead_place = refl
+
+broken_place : place (codes "p(1). q(X):-p(X)") ≡ some 16
+unfolding place
+broken_place = refl
+
+-- ---- the places of literals outside 32 bits
+
+places : List ℕ → Option (List ℕ)
+unfolding class_of step run read next_pieces sentences_pieces sum_pieces outside_from outside_places number? number_on bytes
+places s = and_then (read s) (λ t. some (outside_places t))
+
+greatest_and_one : places (codes "p(2147483648).") ≡ some (2 ∷ [])
+unfolding places
+greatest_and_one = refl
+
+greatest : places (codes "p(2147483647).") ≡ some []
+unfolding places
+greatest = refl
+
+-- in a fact its own minus counts
+least : places (codes "p(-2147483648).") ≡ some []
+unfolding places
+least = refl
+
+below_least : places (codes "p(0..-2147483649, - 02147483649).") ≡ some (6 ∷ 20 ∷ [])
+unfolding places
+below_least = refl
+
+-- in a rule there is none
+least_in_rule : places (codes "p(-2147483648):-q(X),X<2147483648.") ≡ some (3 ∷ 23 ∷ [])
+unfolding places
+least_in_rule = refl

@@ -48,7 +48,7 @@ value_back (tree.range z b y) = refl
 
 -- ---- in its fact
 
-in_fact : (p : Word) (l : List (Next Value)) (s : Blanks) (v : ValuePart) (c : Class) (w : ValuePart) → value_step v c ≡ some w → fact_step (argument p l s v) c ≡ some (argument p l s w)
+pub in_fact : (p : Word) (l : List (Next Value)) (s : Blanks) (v : ValuePart) (c : Class) (w : ValuePart) → value_step v c ≡ some w → fact_step (argument p l s v) c ≡ some (argument p l s w)
 in_fact p l s awaited (blank x) w e = absurd (dead_alive e)
 in_fact p l s v comma w e = absurd (dead_alive e)
 in_fact p l s v closing w e = absurd (dead_alive e)

@@ -142,7 +142,7 @@ unfolding bytes
 bytes_of_pieces [] = refl
 bytes_of_pieces (b ∷ s) = ap (λ l. b ∷ l) (bytes_of_pieces s)
 
-literal_bytes : (own : Bool) (d : List ℕ) (c : List Piece) → bytes (literal own d ∷ c) ≡ bytes (pieces d ++ c)
+pub literal_bytes : (own : Bool) (d : List ℕ) (c : List Piece) → bytes (literal own d ∷ c) ≡ bytes (pieces d ++ c)
 unfolding bytes
 literal_bytes own d c = sym (bytes_append (pieces d) c ∙ ap (λ l. l ++ bytes c) (bytes_of_pieces d))
 

@@ -15,7 +15,7 @@ use Rattle.grammar.proofs.Atoms.{dead_alive, lifted, Sequence, sequence_read, Ar
 
 -- ---- the head
 
-in_head : (p : Word) (l : List (Next Sum)) (st : Blanks) (o : List Open) (v : Level) (x : Option Leaf) (c : Class) (y : Part) → part_step (part st o v x) c ≡ some y → rule_step (argument p l (part st o v x)) c ≡ some (argument p l y)
+pub in_head : (p : Word) (l : List (Next Sum)) (st : Blanks) (o : List Open) (v : Level) (x : Option Leaf) (c : Class) (y : Part) → part_step (part st o v x) c ≡ some y → rule_step (argument p l (part st o v x)) c ≡ some (argument p l y)
 in_head p l st o v none comma y e = absurd (dead_alive e)
 in_head p l st o v (some x) comma y e = absurd (dead_alive e)
 in_head p l st [] v none closing y e = absurd (dead_alive e)
@@ -44,7 +44,7 @@ at_opening : (z : Part) (o : List Open) (s : Option SumLeft) (p : Option Product
 at_opening z [] none none [] = refl
 at_opening z o s p m = refl
 
-in_left : (st : Blanks) (o : List Open) (v : Level) (x : Option Leaf) (c : Class) (y : Part) → part_step (part st o v x) c ≡ some y → item_step (left (part st o v x)) c ≡ some (left y)
+pub in_left : (st : Blanks) (o : List Open) (v : Level) (x : Option Leaf) (c : Class) (y : Part) → part_step (part st o v x) c ≡ some y → item_step (left (part st o v x)) c ≡ some (left y)
 in_left st o v none less y e = absurd (dead_alive e)
 in_left st o v (some x) less y e = absurd (dead_alive e)
 in_left st o v none greater y e = absurd (dead_alive e)
@@ -57,7 +57,7 @@ in_left st o v none opening y e = at_opening (part st o v none) o v.sum v.produc
 in_left st o v (some x) opening y e = absurd (dead_alive e)
 in_left st o v x c y e = ap (λ r. and_then r (λ u. some (left u))) e
 
-in_right : (b : Blanks) (s : Sum) (r : Relation) (st : Blanks) (o : List Open) (v : Level) (x : Option Leaf) (c : Class) (y : Part) → part_step (part st o v x) c ≡ some y → item_step (right b s r (part st o v x)) c ≡ some (right b s r y)
+pub in_right : (b : Blanks) (s : Sum) (r : Relation) (st : Blanks) (o : List Open) (v : Level) (x : Option Leaf) (c : Class) (y : Part) → part_step (part st o v x) c ≡ some y → item_step (right b s r (part st o v x)) c ≡ some (right b s r y)
 in_right b s r st o v none equals y e = absurd (dead_alive e)
 in_right b s r st o v (some x) equals y e = absurd (dead_alive e)
 in_right b s r st o v x c y e = ap (λ q. and_then q (λ u. some (right b s r u))) e
@@ -121,7 +121,7 @@ pub stop_dead : (st : Blanks) (o : List Open) (v : Level) (x : Option Leaf) → 
 stop_dead st o v none = refl
 stop_dead st o v (some x) = refl
 
-in_body : (h : Atom Sum) (l : List (Next Item)) (i : ItemPart) (c : Class) (j : ItemPart) → item_step i c ≡ some j → rule_step (body h l i) c ≡ some (body h l j)
+pub in_body : (h : Atom Sum) (l : List (Next Item)) (i : ItemPart) (c : Class) (j : ItemPart) → item_step i c ≡ some j → rule_step (body h l i) c ≡ some (body h l j)
 in_body h l (left z) comma j e = absurd (dead_and (part_step z comma) _ (comma_dead z.start z.brackets z.level z.operand) e)
 in_body h l (left z) stop j e = absurd (dead_and (part_step z stop) _ (stop_dead z.start z.brackets z.level z.operand) e)
 in_body h l (right b s r z) comma j e = absurd (dead_and (part_step z comma) _ (comma_dead z.start z.brackets z.level z.operand) e)

@@ -1,12 +1,14 @@
 -- A reader of texts: a fold over the bytes with a state that is dead once no text begins so. The state holds what was read as parts of a tree, so that
--- it tells its bytes. What a file is (specs/Errors) is said without it; proofs/ say that it reads each text as its tree.
-use Rattle.std.specs.Prelude.{ℕ, suc, cond, ◌&&◌, eqb, ltb, leb, Bool, true, false, List, [], ◌∷◌, ◌++◌, length}
+-- it tells its bytes. What a file is (specs/Errors) is said without it; proofs/ say that it accepts the texts and nothing else, each as its tree, and
+-- turns a file down where specs/Errors tells.
+use Rattle.std.specs.Prelude.{ℕ, suc, cond, ◌&&◌, eqb, ltb, leb, Bool, true, false, List, [], ◌∷◌, ◌++◌, take, length}
 use Rattle.std.proofs.Math.Option.{Option, some, none}
 use Rattle.rules.specs.declared.Relation.{Relation}
 use Rattle.rules.specs.declared.Relation.TheVariants.{Lt, Le, Gt, Ge, Eq, Neq}
 use Rattle.grammar.specs.Bytes.{Blank, space, line_feed, Blanks}
 use Rattle.grammar.specs.Grammar.{Word, word, Next, next, items, Atom, atom_of, Integer, Value, Additive, Multiplicative, Sum, Product, Unary, Leaf, Item, Items, Sentence, Text, text}
 use Rattle.grammar.specs.Grammar as tree
+use Rattle.grammar.specs.Errors.{most}
 
 -- ---- classes of bytes
 
@@ -485,3 +487,18 @@ read s = and_then (run beginning s) text_of
 unfoldable pub lives : State → List ℕ → ℕ
 lives z [] = 0
 lives z (b ∷ s) = elim (step z b) [ none ↦ 0 | some y ↦ suc (lives y s) ]
+
+-- where a file is turned down: where it is dead, or 8,192 if a longer file has no such place before, or where it breaks off
+abbrev pub place_where : ℕ → List ℕ → Option ℕ
+place_where i s = cond (ltb i (length s) && ltb i most) (some i) (cond (ltb most (length s)) (some most) (elim (read s) [ none ↦ some (length s) | some t ↦ none ]))
+
+abbrev pub turned_down : List ℕ → Option ℕ
+turned_down s = place_where (lives beginning s) s
+
+-- the bytes before the place where it is turned down, or all
+abbrev pub before_place : List ℕ → Option ℕ → List ℕ
+before_place s none = s
+before_place s (some i) = take i s
+
+abbrev pub read_before : List ℕ → List ℕ
+read_before s = before_place s (turned_down s)
