@@ -111,7 +111,7 @@ no_colon : (g : FactState) (c : Class) (y : FactState) → fact_step g c ≡ som
 no_colon g colon y e = dead_alive (sym (fact_colon g) ∙ e)
 no_colon g c y e = tt
 
-abbrev InHead : Option RuleState → Type 0
+abbrev pub InHead : Option RuleState → Type 0
 InHead none = Unit {0}
 InHead (some (reader.predicate w)) = Unit {0}
 InHead (some (reader.argument p l z)) = Unit {0}

@@ -21,4 +21,9 @@ pub mod Turned
 pub mod Place
 pub mod Literals
 pub mod Held
+pub mod Bare
+pub mod Alike
 pub mod Certain
+pub mod Told
+pub mod Fewer
+pub mod Exactly

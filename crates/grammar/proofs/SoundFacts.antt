@@ -107,7 +107,7 @@ value_goes (second z l y) (digit b) p g =
     kept_map (IntegerGoes y b) (ValueGoes (second z l y) b) (λ v. second z l v) (λ v h. ((g.0, h.0), grows_behind (range_on z l) b (integer_pieces y) (integer_pieces v) h.1)) (integer_digit y b) (integer_digit_goes y b p g.1)
 value_goes v c p g = tt
 
-range_written : (z : Integer) (l : Blanks) (y : Integer) → range_on z l ++ integer_pieces y ≡ value_pieces (tree.range z l y)
+pub range_written : (z : Integer) (l : Blanks) (y : Integer) → range_on z l ++ integer_pieces y ≡ value_pieces (tree.range z l y)
 range_written z l y = append_assoc (integer_pieces z ++ (byte 46 ∷ byte 46 ∷ [])) (blank_pieces l) (integer_pieces y) ∙ append_assoc (integer_pieces z) (byte 46 ∷ byte 46 ∷ []) (blank_pieces l ++ integer_pieces y)
 
 value_of_is : (v : ValuePart) → GoodValuePart v → Kept (λ a. GoodValue a × (value_part_pieces v ≡ value_pieces a)) (value_of v)
