@@ -11,19 +11,20 @@ use Rattle.interval.specs.declared.Bound.{Bound}
 use Rattle.lattice.specs.declared.Abstract.{Abstract}
 use Rattle.lattice.specs.declared.Widening.TheVariants.{HeadForm, HeadTerm, UnboundVariable, SymbolSize, ValueWidth, Dependency}
 use Rattle.lattice.specs.Value.{value_of, Reason, reason_number}
+use Rattle.rows.specs.Row.{integrality_cell, case_cell, integrality_of, reason_of}
 use Rattle.replies.specs.declared.Reply.{Reply}
-use Rattle.shown.specs.Shown.{mixed_mark, case_of, low_of, high_of, bound_reply, integrality_in, interval_in, bound_in, kept_mark, value_reply, reason_in, value_in}
+use Rattle.shown.specs.Shown.{low_of, high_of, bound_reply, interval_in, bound_in, kept_mark, value_reply, value_in}
 
-integrality_back : (i : Integrality) → integrality_in (mixed_mark i) ≡ i
+integrality_back : (i : Integrality) → integrality_of (integrality_cell i) ≡ i
 integrality_back Integer = refl
 integrality_back Mixed = refl
 
-interval_back : (i : Interval) → interval_in (case_of i) (low_of i) (high_of i) ≡ i
+interval_back : (i : Interval) → interval_in (case_cell i) (low_of i) (high_of i) ≡ i
 interval_back Bottom = refl
 interval_back (Bounded low high) = refl
 interval_back Unbounded = refl
 
-reason_back : (r : Reason) → reason_in (reason_number r) ≡ r
+reason_back : (r : Reason) → reason_of (reason_number r) ≡ r
 reason_back None = refl
 reason_back (Some HeadForm) = refl
 reason_back (Some HeadTerm) = refl

@@ -7,8 +7,6 @@ use Rattle.limits.specs.declared.Stop.{Stop}
 use Rattle.limits.specs.declared.Refusal.{Refusal}
 use Rattle.limits.specs.declared.Refusal.TheVariants.{Limit}
 use Rattle.limits.specs.Context.{Context}
-use Rattle.interval.specs.declared.Integrality.{Integrality}
-use Rattle.interval.specs.declared.Integrality.TheVariants.{Integer, Mixed}
 use Rattle.interval.specs.declared.Interval.{Interval}
 use Rattle.interval.specs.declared.Interval.TheVariants.{Bottom, Bounded, Unbounded}
 use Rattle.interval.specs.declared.Bound.{Bound}
@@ -16,8 +14,8 @@ use Rattle.interval.specs.declared.Constant.{Constant}
 use Rattle.interval.specs.declared.Constant.TheVariants.{Number, Name, Large}
 use Rattle.interval.specs.Bound.{bottom_bound}
 use Rattle.lattice.specs.declared.Abstract.{Abstract}
-use Rattle.lattice.specs.declared.Widening.TheVariants.{HeadForm, HeadTerm, UnboundVariable, SymbolSize, ValueWidth, Dependency}
-use Rattle.lattice.specs.Value.{Value, value, Reason, reason_number}
+use Rattle.lattice.specs.Value.{Value, value, reason_number}
+use Rattle.rows.specs.Row.{integrality_cell, case_cell, integrality_of, reason_of}
 use Rattle.replies.specs.declared.Reply.{Reply}
 use Rattle.replies.specs.Reply.{accepting, refusing}
 use Rattle.shown.specs.declared.BoundReply.{BoundReply}
@@ -27,15 +25,7 @@ use Rattle.shown.specs.declared.StatusReply.{StatusReply}
 
 -- ---- a bound
 
-abbrev pub mixed_mark : Integrality → ℕ
-mixed_mark Integer = 0
-mixed_mark Mixed = 1
-
-abbrev pub case_of : Interval → ℕ
-case_of Bottom = 0
-case_of (Bounded low high) = 1
-case_of Unbounded = 2
-
+-- integrality and case by the numbers that a row has for them; of the ends 0 where there are none
 abbrev pub low_of : Interval → ℤ
 low_of Bottom = pos 0
 low_of (Bounded low high) = low
@@ -47,21 +37,18 @@ high_of (Bounded low high) = high
 high_of Unbounded = pos 0
 
 abbrev pub bound_reply : Reply → Bound → BoundReply
-bound_reply r b = record { reply = r; mixed = mixed_mark b.integrality; case = case_of b.interval; low = low_of b.interval; high = high_of b.interval }
+bound_reply r b = record { reply = r; mixed = integrality_cell b.integrality; case = case_cell b.interval; low = low_of b.interval; high = high_of b.interval }
 
 abbrev pub bounded : Result Bound Refusal → BoundReply
 bounded (Ok b) = bound_reply (accepting 0) b
 bounded (Err e) = bound_reply (refusing e) bottom_bound
 
 -- what it shows
-abbrev pub integrality_in : ℕ → Integrality
-integrality_in n = cond (eqb n 0) Integer Mixed
-
 abbrev pub interval_in : ℕ → ℤ → ℤ → Interval
 interval_in n low high = get_or (Bottom ∷ Bounded low high ∷ []) n Unbounded
 
 abbrev pub bound_in : BoundReply → Bound
-bound_in r = record { integrality = integrality_in r.mixed; interval = interval_in r.case r.low r.high }
+bound_in r = record { integrality = integrality_of r.mixed; interval = interval_in r.case r.low r.high }
 
 -- ---- a value
 
@@ -77,11 +64,8 @@ valued (Ok v) = value_reply (accepting 0) v
 valued (Err e) = record { bound = bound_reply (refusing e) bottom_bound; kept = 0; reason = 0; len = 0; ids = replicate size.width 0 }
 
 -- what it shows
-abbrev pub reason_in : ℕ → Reason
-reason_in n = get_or (None ∷ Some HeadForm ∷ Some HeadTerm ∷ Some UnboundVariable ∷ Some SymbolSize ∷ Some ValueWidth ∷ Some Dependency ∷ []) n None
-
 abbrev pub value_in : ValueReply → Value
-value_in r = value (bound_in r.bound) (cond (eqb r.kept 0) none (some (take r.len r.ids))) (reason_in r.reason)
+value_in r = value (bound_in r.bound) (cond (eqb r.kept 0) none (some (take r.len r.ids))) (reason_of r.reason)
 
 -- ---- a key, but for the bytes of a name
 

@@ -3,9 +3,9 @@
 #![tactic(auto)]
 
 ghost use Rattle.std.specs.Prelude.{◌≡◌};
-ghost use Rattle.shown.specs.Shown.{mixed_mark, case_of, low_of, high_of, bound_reply, bounded, value_reply, valued, key_reply, keyed, completing, stopping, unread};
+ghost use Rattle.shown.specs.Shown.{low_of, high_of, bound_reply, bounded, value_reply, valued, key_reply, keyed, completing, stopping, unread};
 
-use interval::{Bound, Constant, Integrality, Interval};
+use interval::{Bound, Constant, Interval};
 use lattice::Abstract;
 use limits::{Refusal, Stop};
 use replies::Reply;
@@ -52,34 +52,24 @@ pub struct StatusReply {
     pub context: u32,
 }
 
-fn mixed_mark(integrality: Integrality) -> u32
-    ensures { result ≡ mixed_mark integrality }
-{
-    match integrality {
-        Integrality::Integer => 0,
-        Integrality::Mixed => 1,
-    }
-}
-
-// The case of an interval and its ends, 0 where it has none.
-fn parts_of(interval: Interval) -> (u32, i32, i32)
-    ensures { result ≡ (case_of interval, low_of interval, high_of interval) }
+// The ends of an interval, 0 where it has none.
+fn ends_of(interval: Interval) -> (i32, i32)
+    ensures { result ≡ (low_of interval, high_of interval) }
 {
     match interval {
-        Interval::Bottom => (0, 0, 0),
-        Interval::Bounded { low, high } => (1, low, high),
-        Interval::Unbounded => (2, 0, 0),
+        Interval::Bounded { low, high } => (low, high),
+        Interval::Bottom | Interval::Unbounded => (0, 0),
     }
 }
 
 fn with_bound(reply: Reply, bound: Bound) -> BoundReply
     ensures { result ≡ bound_reply reply bound }
 {
-    let (case, low, high) = parts_of(bound.interval);
+    let (low, high) = ends_of(bound.interval);
     BoundReply {
         reply,
-        mixed: mixed_mark(bound.integrality),
-        case,
+        mixed: rows::integrality_cell(bound.integrality),
+        case: rows::case_cell(bound.interval),
         low,
         high,
     }
