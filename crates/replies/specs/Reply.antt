@@ -2,9 +2,9 @@
 use Rattle.std.specs.Prelude.{ℕ, ◌+◌, ◌*◌, ◌^◌, Bool, true, false, cond, eqb, [], ◌∷◌, get_or, Result, Ok, Err}
 use Rattle.limits.specs.declared.Stop.{Stop}
 use Rattle.limits.specs.declared.Refusal.{Refusal}
-use Rattle.limits.specs.declared.Refusal.TheVariants.{Closed, Shape, Full, Limit, Missing, Descending, MissingSlot}
+use Rattle.limits.specs.declared.Refusal.TheVariants.{Limit}
 use Rattle.limits.specs.Metered.{Run, going, stopped}
-use Rattle.limits.specs.Refusal.{Told, resource_number}
+use Rattle.limits.specs.Refusal.{Told, told, resource_number}
 use Rattle.replies.specs.declared.Reply.{Reply}
 
 -- ---- from an answer to a reply
@@ -18,14 +18,10 @@ limiting s = record { code = resource_number s.resource; value = 0; limit = s.li
 abbrev pub plain : ℕ → Reply
 plain n = record { code = n; value = 0; limit = 0; high = 0; low = 0 }
 
+-- the values of a charge, and of any other refusal its number alone
 abbrev pub refusing : Refusal → Reply
-refusing Closed = plain 1
-refusing Shape = plain 1
-refusing Full = plain 2
 refusing (Limit s) = limiting s
-refusing Missing = plain 5
-refusing Descending = plain 13
-refusing MissingSlot = plain 14
+refusing r = plain (told r).number
 
 -- `value` says which number an answer is told as: itself, or 0 where there is nothing to tell
 abbrev pub reply_of : {A : Type 0} → (A → ℕ) → Result A Refusal → Reply

@@ -61,12 +61,8 @@ pub fn refusing(refusal: Refusal) -> Reply
     ensures { result ≡ refusing refusal }
 {
     match refusal {
-        Refusal::Closed | Refusal::Shape => plain(1),
-        Refusal::Full => plain(2),
         Refusal::Limit(stop) => limiting(stop),
-        Refusal::Missing => plain(5),
-        Refusal::Descending => plain(13),
-        Refusal::MissingSlot => plain(14),
+        other => plain(u64::from(other)),
     }
 }
 
