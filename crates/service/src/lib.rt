@@ -7,7 +7,7 @@ ghost use Rattle.std.specs.Prelude.{◌≡◌, drop};
 ghost use Rattle.header.specs.Header.{limits_in, header_of};
 ghost use Rattle.keys.specs.Key.{key_of};
 ghost use Rattle.input.specs.Input as input;
-ghost use Rattle.engine.specs.Call.{working};
+ghost use Rattle.engine.specs.Call.{read, tables, working, run_leaves};
 ghost use Rattle.numeric.specs.Question as asks;
 ghost use Rattle.numeric.specs.Step as calls;
 ghost use Rattle.numeric.specs.Step.{State};
@@ -155,7 +155,8 @@ pub fn rule(
     replies::id(answer)
 }
 
-// The run: accepted where it was taken, whether it has completed or stopped. The last three tables are those that it works in.
+// The run: accepted where it was taken, whether it has completed or stopped. The last three tables are those that it works in;
+// the first two of them hold the current values and the growth afterwards.
 pub fn run(
     words: &mut [u64; HEADER],
     nodes: &[u64],
@@ -169,7 +170,8 @@ pub fn run(
     growth: &mut [u32],
     scratch: &mut [u32],
 ) -> Reply
-    ensures { (s : State) → Exchange (for_run (header_of words.old) nodes.now constants.now rules.now seeds.now thresholds.old arguments.old slots.old s) (calls.run (working current.old growth.old scratch.old)) (told.run result) (for_run (header_of words.new) nodes.now constants.now rules.now seeds.now thresholds.new arguments.new slots.new s) }
+    ensures exchange { (s : State) → Exchange (for_run (header_of words.old) nodes.now constants.now rules.now seeds.now thresholds.old arguments.old slots.old s) (calls.run (working current.old growth.old scratch.old)) (told.run result) (for_run (header_of words.new) nodes.now constants.now rules.now seeds.now thresholds.new arguments.new slots.new s) }
+    ensures left { (current.new, growth.new) ≡ run_leaves (read nodes.now constants.now rules.now seeds.now) (working current.old growth.old scratch.old) (tables (header_of words.old) thresholds.old arguments.old slots.old) }
 {
     let mut store = header::of(words);
     let answer = engine::run(
