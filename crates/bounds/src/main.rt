@@ -5,6 +5,7 @@
 use keys::Key;
 use limits::{Limits, Refusal};
 use nodes::{BinaryOp, Expression};
+use report::Lines;
 use rules::{Binding, Guard, Head, Lengths, Relation, Rule};
 use std::io::{Stdout, Write};
 use store::Store;
@@ -130,16 +131,10 @@ impl Design {
     }
 
     fn report(&self, output: Stdout, count: u64) {
+        let mut lines = Lines::new(&self.store, &self.arguments, &self.rules, &self.slots);
         let mut line = [0; sizes::LINE];
-        for k in 0..count {
-            let written = report::report_line(
-                &self.store,
-                &self.arguments,
-                &self.rules,
-                &self.slots,
-                &mut line,
-                k,
-            );
+        for _ in 0..count {
+            let written = lines.next(&mut line);
             tell(output, written, &line);
         }
     }

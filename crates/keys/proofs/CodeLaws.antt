@@ -1,22 +1,21 @@
 -- What the code's answers are, over plain variables.
 use Prim.Native.Nat.{min, ◌+◌, ◌-◌, ◌*◌}
 use native.Mathlib.Omega.{arith}
+use native.Mathlib.Decide.{dec_lt}
 use mathlib.Core.Path.{◌≡◌, refl, sym, ap, ◌∙◌}
-use mathlib.Core.List.{List, [], ◌∷◌, ◌++◌}
+use mathlib.Core.List.{List, [], ◌∷◌}
 use borrow.Author.Tests.{ne_eqb}
 use lib.IntN.{ℤ}
-use lib.ListN.{length, take, drop, length-take, length-drop}
-use lib.Seq.{sets, sets-eq, drop-drop, take_all}
-use borrow.Rule.Slice.PartMut.{put_mid}
-use Rattle.std.proofs.Common.{ℕ, append_assoc}
-use Rattle.integers.proofs.Stores.{sets_min, drop_min, take_min}
+use lib.ListN.{length, take, drop, length-drop}
+use lib.Seq.{sets, take_all}
+use Rattle.std.proofs.Common.{ℕ}
+use Rattle.integers.proofs.Stores.{sets_min, sets_out, drop_min, take_min, Writing, writing_all}
 use Rattle.cells.specs.Cells.{of_cell}
 use Rattle.std.specs.declared.cmp.Ordering.{Ordering}
 use Rattle.std.specs.declared.cmp.Ordering.TheVariants.{Less, Equal, Greater}
 use Rattle.std.specs.Ordering.{nat_cmp, ordering_then}
 use Rattle.std.specs.Cmp.Lexicographic.{slice_cmp}
 use Rattle.search.specs.Seek.{by}
-use Rattle.search.proofs.Inserted.{cut}
 use Rattle.keys.specs.declared.Key as declared
 use Rattle.keys.specs.declared.Key.TheVariants.{Number, Name}
 use Rattle.keys.specs.contracts.KeyOrd.TheImpl as key_ord
@@ -63,15 +62,11 @@ module _ (names : List ℕ) (id start : ℕ) (h : start ≡ min (64 * id) (lengt
       = take_all (length names - start) (drop start names) (simp length-drop (omega arith)) ∙ ap (λ (i : ℕ). drop i names) h ∙ drop_min names (64 * id) in
       rw (e, f) (take_min (drop (64 * id) names) (min len 64))
 
-  pub name_put : (text : List ℕ) (n k : ℕ) {w : List ℕ} → n ≡ min (length text) (length names - start) → k ≡ n → w ≡ take k text → put_mid start k names w ≡ put_name names id text
-  name_put text n k {w} e f g =
-      let t : take (length names - start) text ≡ take n text = sym (take_min text (length names - start)) ∙ ap (λ (i : ℕ). take i text) (omega arith) in
-      let w_is : w ≡ take n text = g ∙ ap (λ (i : ℕ). take i text) f in
-      let m : length (take n text) ≡ n = simp length-take (omega arith) in
-      let s : sets names (64 * id) text ≡ sets names start (take n text) = sym (sets_min text names (64 * id)) ∙ ap (λ (i : ℕ). sets names i text) (sym h) ∙ cut text names start ∙ ap (λ (l : List ℕ). sets names start l) t in
-      rw (f, w_is)
-      (sym
-      (s
-      ∙ sets-eq (take n text) names start (omega arith)
-      ∙ append_assoc (take start names) (take n text) (drop (start + length (take n text)) names)
-      ∙ ap (λ (l : List ℕ). take start names ++ (take n text ++ l)) (ap (λ (i : ℕ). drop (start + i) names) m ∙ sym (drop-drop n start names))))
+  -- as many bytes as there are, or as the store has room for
+  pub name_put : (text : List ℕ) (n : ℕ) {m : List ℕ} → Writing (sets names start text) m start text n → length m ≡ length names → n ≡ min (length text) (length names - start) → m ≡ put_name names id text
+  name_put text n {m} p e f =
+      let s : sets names start text ≡ sets names (64 * id) text = rw h (sets_min text names (64 * id)) in
+      elim (dec_lt n (length text)) [
+        | yes g ↦ sym (p.rest ∙ sets_out (drop n text) m (start + n) (omega arith)) ∙ s
+        | no g ↦ writing_all p (omega arith) ∙ s
+      ]

@@ -93,6 +93,8 @@ pub fn put_name(names: &mut [u8], id: usize, text: &[u8])
     ensures { names.new ≡ put_name names.old id text.now }
 {
     let start = id.saturating_mul(sizes::NAME).min(names.len());
-    let end = start + text.len().min(names.len() - start);
-    names[start..end].copy_from_slice(&text[..end - start]);
+    let len = text.len().min(names.len() - start);
+    for i in 0..len {
+        names[start + i] = text[i];
+    }
 }

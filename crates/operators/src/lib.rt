@@ -4,10 +4,12 @@
 
 ghost use Rattle.std.specs.Prelude.{◌≡◌};
 ghost use Rattle.operators.specs.Arithmetic.{empty?, range_of, interval_from, unary_of, absolute_of, arithmetic, binary_of, difference?, span};
-ghost use Rattle.operators.specs.Literal.{literal, covered};
+ghost use Rattle.lattice.specs.Constants.{constant_at};
+ghost use Rattle.rows.specs.Row.{id_of};
+ghost use Rattle.operators.specs.Literal.{number_of, literal, covered};
 
 use interval::{Constant, Interval};
-use nodes::{BinaryOp, Expression, UnaryOp};
+use nodes::{BinaryOp, UnaryOp};
 use range::Range;
 
 pub fn is_empty(interval: Interval) -> bool
@@ -91,18 +93,26 @@ pub fn span(low: Interval, high: Interval) -> Interval
     Interval::checked(i64::from(from), i64::from(to))
 }
 
-// The number of an expression that is a constant. Ids of constants have 16 bits: `%`, since a cast alone must fit.
-#[tactic(auto, unfolding(crate::specs::Literal::literal))]
-pub fn literal_of(nodes: &[u64], constants: &[u32], id: u64) -> Option<i32>
-    ensures { result ≡ literal nodes.now constants.now id }
+// The number of a constant. Ids of constants have 16 bits: `%`, since a cast alone must fit.
+fn number_of(constants: &[u32], constant: u64) -> Option<i32>
+    ensures { result ≡ number_of (constant_at constants.now (id_of constant)) }
 {
-    let Expression::Constant(constant) = nodes::expression_at(nodes, id as usize) else {
-        return None;
-    };
     match lattice::constant_at(constants, (constant % 65536) as u16) {
         Constant::Number(n) => Some(n),
         _ => None,
     }
+}
+
+// The number of an expression that is a constant. Its row tells without being read as an expression: a product of expressions asks for both
+// each time that it is evaluated.
+pub fn literal_of(nodes: &[u64], constants: &[u32], id: u64) -> Option<i32>
+    ensures { result ≡ literal nodes.now constants.now id }
+{
+    let node = nodes::node_at(nodes, id as usize);
+    if node.kind != 0 {
+        return None;
+    }
+    number_of(constants, node.left)
 }
 
 // Whether the range of an operator is used.

@@ -1,6 +1,7 @@
 //! Answers the jobs on standard input, line by line. All tables are arrays of `main`, lent down to the calls.
 #![tactic(auto)]
 
+mod buffer;
 mod parts;
 mod reading;
 mod serving;
@@ -40,7 +41,10 @@ fn serve(session: &mut Session) -> Result<(), Malformed> {
         session.tell();
         match session.reader.call()? {
             None => return Ok(()),
-            Some(30) => session.run(),
+            Some(30) => {
+                session.reader.teller.flush();
+                session.run();
+            }
             Some(call) => session.step(call)?,
         }
     }
@@ -49,15 +53,16 @@ fn serve(session: &mut Session) -> Result<(), Malformed> {
 
 fn main(rt: HostRuntime) {
     let mut session = Session {
-        reader: Reader::new(rt.stdin()),
+        reader: Reader::new(rt.stdin(), Teller::new(rt.stderr())),
         writer: Writer::new(rt.stdout()),
-        teller: Teller::new(rt.stderr()),
         store: nothing(),
         tables: Tables::new(),
     };
     if serve(&mut session).is_err() {
         session.writer.put(b"malformed\n");
-        session.teller.malformed(session.reader.place);
+        let place = session.reader.place;
+        session.reader.teller.malformed(place);
     }
+    session.reader.teller.flush();
     session.writer.flush();
 }

@@ -1,5 +1,6 @@
 //! Standard input as the text of a job: decimal integers, parted by spaces and line feeds. The buffer is filled anew once it is used up,
 //! so that a text of any length can be read.
+use crate::telling::Teller;
 use std::io::{Read, Stdin};
 use words::Word;
 
@@ -16,10 +17,11 @@ pub struct Place {
 }
 
 // Standard input, and what of it has been read and not been looked at yet: the bytes from `at` up to `end`. `place` is that of the word read
-// last, `start` that of the word that its call begins with.
+// last, `start` that of the word that its call begins with. What `teller` has is written out before the program waits for more of the text.
 #[derive(Drop)]
 pub struct Reader {
     from: Stdin,
+    pub teller: Teller,
     bytes: [u8; 65536],
     at: usize,
     end: usize,
@@ -29,7 +31,7 @@ pub struct Reader {
 }
 
 impl Reader {
-    pub fn new(from: Stdin) -> Reader {
+    pub fn new(from: Stdin, teller: Teller) -> Reader {
         let place = Place {
             line: 1,
             word: 0,
@@ -37,6 +39,7 @@ impl Reader {
         };
         Reader {
             from,
+            teller,
             bytes: [0; 65536],
             at: 0,
             end: 0,
@@ -51,6 +54,7 @@ impl Reader {
         if self.at < self.end || self.over {
             return;
         }
+        self.teller.flush();
         self.end = self.from.read(&mut self.bytes).unwrap_or(0);
         self.at = 0;
         self.over = self.end == 0;

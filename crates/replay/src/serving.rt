@@ -2,10 +2,10 @@
 use crate::parts;
 use crate::reading::{Malformed, Reader};
 use crate::tables::Tables;
-use crate::telling::Teller;
 use crate::writing::Writer;
 use interval::Constant;
 use keys::Key;
+use report::Lines;
 use store::{Phase, Store};
 
 // A job: its text, its answers, the store so far, and the tables.
@@ -13,7 +13,6 @@ use store::{Phase, Store};
 pub struct Session {
     pub reader: Reader,
     pub writer: Writer,
-    pub teller: Teller,
     pub store: Store,
     pub tables: Tables,
 }
@@ -30,7 +29,10 @@ impl Session {
     // If the call before this was refused, a person is told where and why.
     pub fn tell(&mut self) {
         if let Some(refusal) = self.writer.take_refusal() {
-            self.teller.refused(self.reader.start, refusal);
+            self.reader.teller.refused(self.reader.start, refusal);
+        }
+        if self.writer.is_nearly_full() {
+            self.reader.teller.flush();
         }
     }
 
@@ -201,17 +203,11 @@ impl Session {
     }
 
     fn report_lines(&mut self, count: u64) {
-        let mut line = [0; sizes::LINE];
         let tables = &self.tables;
-        for k in 0..count {
-            let written = report::report_line(
-                &self.store,
-                &tables.arguments,
-                &tables.rules,
-                &tables.slots,
-                &mut line,
-                k,
-            );
+        let mut lines = Lines::new(&self.store, &tables.arguments, &tables.rules, &tables.slots);
+        let mut line = [0; sizes::LINE];
+        for _ in 0..count {
+            let written = lines.next(&mut line);
             self.writer.line(written, &line);
         }
     }
@@ -269,6 +265,7 @@ impl Session {
     }
 
     fn contexts_line(&mut self, argument: u64) {
+        self.reader.teller.flush();
         match numeric::context_count(&self.store, &self.tables.records, argument) {
             Ok(count) => self.context_words(argument, count),
             Err(refusal) => self.writer.refused(refusal),

@@ -1,12 +1,14 @@
 //! What a person is told on standard error: where in the text a call was refused or the text is no job, and why.
+use crate::buffer::Buffer;
 use crate::reading::Place;
 use limits::{Refusal, Resource};
-use std::io::{Stderr, Write};
+use std::io::Stderr;
 
-// Standard error. What is written there is for people: the lines that answer a job are all on standard output.
+// Standard error, by way of a buffer: a job may have many refusals, and a write for each word of each would take longer than the calls.
+// What is written there is for people: the lines that answer a job are all on standard output.
 #[derive(Drop)]
 pub struct Teller {
-    to: Stderr,
+    out: Buffer<Stderr, 1024>,
 }
 
 // Why a call was refused.
@@ -37,44 +39,41 @@ fn passed(resource: Resource) -> &'static [u8] {
 
 impl Teller {
     pub fn new(to: Stderr) -> Teller {
-        Teller { to }
+        Teller {
+            out: Buffer::new(to),
+        }
     }
 
-    // A failed write is passed over.
-    fn put(&mut self, word: &[u8]) {
-        let _ = self.to.write_all(word);
+    // Before the program waits for more of the text, before a run, before answers are written out, and at the end.
+    pub fn flush(&mut self) {
+        self.out.flush();
     }
 
-    // A number behind a space.
-    fn number(&mut self, n: u64) {
-        let mut word = [0; 32];
-        let end = text::put_number(&mut word, 0, n);
-        self.put(&word[..end]);
-    }
-
+    // How each line begins. None is cut in two by what standard output has in between.
     fn place(&mut self, place: Place) {
-        self.put(b"line");
-        self.number(place.line);
-        self.put(b", call");
-        self.number(place.call);
-        self.put(b", word");
-        self.number(place.word);
-        self.put(b": ");
+        self.out.reserve(256);
+        self.out.put(b"line");
+        self.out.number(place.line);
+        self.out.put(b", call");
+        self.out.number(place.call);
+        self.out.put(b", word");
+        self.out.number(place.word);
+        self.out.put(b": ");
     }
 
     // A call was refused: where it begins, the refusal's number and its cause.
     pub fn refused(&mut self, place: Place, refusal: Refusal) {
         self.place(place);
-        self.put(b"refused");
-        self.number(u64::from(refusal));
-        self.put(b", ");
-        self.put(cause(refusal));
-        self.put(b"\n");
+        self.out.put(b"refused");
+        self.out.number(u64::from(refusal));
+        self.out.put(b", ");
+        self.out.put(cause(refusal));
+        self.out.put(b"\n");
     }
 
     // The text is no job: the word that this was found at. Behind the last word of a text that breaks off stands none.
     pub fn malformed(&mut self, place: Place) {
         self.place(place);
-        self.put(b"malformed, this word cannot stand here, or the text ends before it\n");
+        self.out.put(b"malformed, this word cannot stand here, or the text ends before it\n");
     }
 }

@@ -1,50 +1,39 @@
-//! Standard output by way of a buffer, which is written out when a word would not fit any more.
+//! The lines that answer a job, on standard output by way of a buffer.
+use crate::buffer::Buffer;
 use limits::Refusal;
-use std::io::{Stdout, Write};
+use std::io::Stdout;
 
-// Standard output, and the first `len` bytes, which are not written out yet. `refusal` is the last one that was written, until it is taken.
+// Standard output, and the last refusal that was written there, until it is taken.
 #[derive(Drop)]
 pub struct Writer {
-    to: Stdout,
-    bytes: [u8; 65536],
-    len: usize,
+    out: Buffer<Stdout, 65536>,
     refusal: Option<Refusal>,
 }
 
 impl Writer {
     pub fn new(to: Stdout) -> Writer {
         Writer {
-            to,
-            bytes: [0; 65536],
-            len: 0,
+            out: Buffer::new(to),
             refusal: None,
         }
     }
 
-    // Writes out what the buffer has. A failed write is passed over.
     pub fn flush(&mut self) {
-        if let Some(bytes) = self.bytes.get(..self.len) {
-            let _ = self.to.write_all(bytes);
-        }
-        self.len = 0;
+        self.out.flush();
     }
 
-    // A word. None is longer than the buffer.
     pub fn put(&mut self, word: &[u8]) {
-        if self.bytes.len() - self.len.min(self.bytes.len()) < word.len() {
-            self.flush();
-        }
-        let start = self.len.min(self.bytes.len());
-        let fits = word.len().min(self.bytes.len() - start);
-        self.bytes[start..start + fits].copy_from_slice(&word[..fits]);
-        self.len = start + fits;
+        self.out.put(word);
+    }
+
+    // Whether the next answer may have the buffer written out. Those of a run and of its contexts can be longer.
+    pub fn is_nearly_full(&self) -> bool {
+        !self.out.has_room(1024)
     }
 
     // A space and a number.
     pub fn number(&mut self, n: u64) {
-        let mut word = [0; 32];
-        let end = text::put_number(&mut word, 0, n);
-        self.put(&word[..end]);
+        self.out.number(n);
     }
 
     pub fn integer(&mut self, z: i32) {

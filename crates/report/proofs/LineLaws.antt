@@ -1,18 +1,19 @@
 -- The lines of the report from the words put into them, over plain variables, and what a lent buffer then holds.
 use Rattle.sizes.specs.Sizes as size
-use Prim.Native.Nat.{ℕ, ◌+◌, ◌≤◌}
+use Prim.Native.Nat.{ℕ, ◌≤◌}
 use native.Mathlib.Omega.{arith}
-use mathlib.Core.Path.{◌≡◌, refl, sym, ◌∙◌}
+use mathlib.Core.Path.{◌≡◌, refl, sym}
 use mathlib.Core.Bool.{Bool}
-use mathlib.Core.List.{List, [], ◌∷◌, ◌++◌, append-nil}
+use mathlib.Core.List.{List, [], ◌∷◌, append-nil}
 use borrow.Author.Tests.{eq-eqb, ne_eqb}
-use lib.ListN.{length, drop}
-use lib.Seq.{sets-eq}
+use lib.ListN.{length}
+use lib.Seq.{sets}
 use Rattle.limits.specs.declared.Stop.{Stop}
 use Rattle.limits.specs.declared.Refusal.{Refusal}
 use Rattle.limits.specs.declared.Refusal.TheVariants.{Closed, Shape, Full, Limit, Missing, Descending, MissingSlot}
 use Rattle.limits.specs.Refusal.{told}
 use Rattle.limits.specs.Charge.{observed}
+use Rattle.integers.proofs.Stores.{Writing, writing_all}
 use Rattle.lattice.specs.Value.{value_of}
 use Rattle.store.specs.declared.Store.{Store}
 use Rattle.text.specs.Text.{decimal, spaced, spaced_words}
@@ -31,8 +32,8 @@ use Rattle.report.specs.Line.{Lined, told_words, status_text, argument_text, slo
 
 -- ---- a head word
 
-pub word_first : (w l : List ℕ) → length w ≤ length l → Puts w 0 l (length w) (w ++ drop (length w) l)
-word_first w l h = record { place = omega arith; line = let e : 0 + length w ≡ length w = omega arith in sym (sets-eq w l 0 (omega arith) ∙ rw e) }
+pub word_put : (w l : List ℕ) (n : ℕ) {m : List ℕ} → Writing (sets l 0 w) m 0 w n → length w ≤ n → Puts w 0 l (length w) m
+word_put w l n p h = record { place = omega arith; line = writing_all p h }
 
 -- ---- the end of a line
 

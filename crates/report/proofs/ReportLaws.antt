@@ -22,6 +22,7 @@ use Rattle.lattice.specs.Value.{Value}
 use Rattle.rows.specs.Row.{bound_of, value_at}
 use Rattle.rules.specs.Read.{slots_at}
 use Rattle.results.specs.Result.{bound_place}
+use Rattle.rounds.proofs.CodeLaws.{few_slots}
 use Rattle.store.specs.declared.Phase.{Phase}
 use Rattle.store.specs.declared.Phase.TheVariants.{Absent, Open}
 use Rattle.store.specs.declared.Store.{Store}
@@ -105,6 +106,11 @@ none_before rules = refl
 pub more_before : (rules : List ℕ) (n : ℕ) → lines_before rules (n + 1) ≡ lines_before rules n + 2 * slots_at rules n
 unfolding lines_before
 more_before rules n = rw add-one
+
+pub few_before : (rules : List ℕ) (n : ℕ) → lines_before rules n ≤ 2 * size.slots * n
+unfolding lines_before
+few_before rules zero = omega arith
+few_before rules (suc n) = omega (arith, few_before rules n, few_slots rules n)
 
 before_grows : (rules : List ℕ) (r n : ℕ) → r ≤ n → lines_before rules r ≤ lines_before rules n
 unfolding lines_before

@@ -2,7 +2,7 @@
 //! stays as it was.
 #![tactic(auto)]
 
-ghost use Rattle.std.specs.Prelude.{◌≡◌, ◌+◌, ◌*◌, ◌/◌, ◌%◌, ◌<◌, ◌≤◌, cond, eqb, length};
+ghost use Rattle.std.specs.Prelude.{◌≡◌, ◌+◌, ◌*◌, ◌/◌, ◌%◌, ◌<◌, ◌≤◌, cond, eqb, length, IfOk};
 ghost use Rattle.sizes.specs.Sizes as size;
 ghost use Rattle.limits.specs.Refusal.{told};
 ghost use Rattle.lattice.specs.Value.{value_of};
@@ -13,7 +13,7 @@ ghost use Rattle.text.specs.Text.{line as worded, spaced_words};
 ghost use Rattle.text.specs.Answers.{Puts};
 ghost use Rattle.numeric.specs.Reading.{given};
 ghost use Rattle.numeric.specs.Answers.{reads};
-ghost use Rattle.report.specs.Places.{lines_before, Stands};
+ghost use Rattle.report.specs.Places.{lines_before, Stands, Begins};
 ghost use Rattle.report.specs.Report.{report_sized, report_of, completed_lines, stopped_lines, line_count, nth_line};
 ghost use Rattle.report.specs.Line.{told_words, done_text, argument_text, slot_text, statistics_text, status_line, argument_line, slot_line, statistics_line, refusal_line, on_buffer, written};
 
@@ -23,12 +23,18 @@ use limits::{Refusal, Statistics, Stop};
 use numeric::Ended;
 use store::{Phase, Store};
 
+mod lines;
+
+pub use lines::Lines;
+
 // A head word, at the start of the line.
 fn put_word(line: &mut [u8], word: &[u8]) -> usize
     requires { length word.now ≤ length line.old }
     ensures { Puts word.now 0 line.old result line.new }
 {
-    line[..word.len()].copy_from_slice(word);
+    for (i, byte) in word.iter().enumerate() {
+        line[i] = *byte;
+    }
     word.len()
 }
 
@@ -236,13 +242,20 @@ fn lines_before(rules: &[u32], count: usize) -> u64
     lines
 }
 
-// The n-th of those lines.
-fn place_of(rules: &[u32], count: usize, n: u64) -> Place
-    requires { count ≤ size.rules }
-    ensures { Stands rules.now count n result }
+// Where the search for a line of the rules begins: at a rule, and how many lines the rules before it have.
+#[derive(Clone, Copy, Debug, PartialEq, Eq)]
+struct Start {
+    rule: usize,
+    before: u64,
+}
+
+// The n-th line of the rules from `from` on.
+fn place_from(rules: &[u32], count: usize, from: usize, n: u64) -> Place
+    requires { (count ≤ size.rules) × (from ≤ count) }
+    ensures { Stands rules.now count (lines_before rules.now from + n) result }
 {
     let mut left = n;
-    for rule in 0..count {
+    for rule in from..count {
         let lines = lines_of(rules, rule);
         if left < lines {
             return Place::OfRule(rule, left);
@@ -263,7 +276,7 @@ fn put_pair(line: &mut [u8], slots: &[u32], rule: usize, i: u64) -> usize
     put_slot(line, rule as u64, slot, after, bound)
 }
 
-// A line of a completed run's report.
+// A line of a completed run's report. A line of a rule is sought from `start` on, and `start` goes to that rule.
 fn completed_line(
     store: &Store,
     arguments: &[u32],
@@ -271,9 +284,12 @@ fn completed_line(
     slots: &[u32],
     line: &mut [u8],
     k: u64,
+    start: &mut Start,
 ) -> Result<usize, Refusal>
-    requires { (length line.old ≡ size.line) × (length slots.now ≡ size.bounds_cells) }
-    ensures { written result line.new ≡ on_buffer line.old (nth_line (given (completed_lines store.now arguments.now rules.now slots.now)) k) }
+    requires { (length line.old ≡ size.line) × (length slots.now ≡ size.bounds_cells) × Begins store.now rules.now k start.old }
+    ensures line { written result line.new ≡ on_buffer line.old (nth_line (given (completed_lines store.now arguments.now rules.now slots.now)) k) }
+    ensures begins { Begins store.now rules.now k start.new }
+    ensures few { IfOk result (λ _. k ≤ size.positions + 2 * size.slots * size.rules + 1) }
 {
     let counts = store.counts;
     let positions = counts.positions.min(sizes::POSITIONS) as u64;
@@ -284,8 +300,16 @@ fn completed_line(
         let value = rows::abstract_at(arguments, (k - 1) as usize);
         return Ok(put_argument(line, k - 1, value));
     }
-    match place_of(rules, counts.rules.min(sizes::RULES), k - 1 - positions) {
-        Place::OfRule(rule, i) => Ok(put_pair(line, slots, rule, i)),
+    let n = k - 1 - positions;
+    let rule_count = counts.rules.min(sizes::RULES);
+    match place_from(rules, rule_count, start.rule, n - start.before) {
+        Place::OfRule(rule, i) => {
+            *start = Start {
+                rule,
+                before: n - i,
+            };
+            Ok(put_pair(line, slots, rule, i))
+        }
         Place::Behind(0) => Ok(put_statistics(line, store.budget.statistics)),
         Place::Behind(_) => Err(Refusal::Missing),
     }
@@ -327,6 +351,31 @@ pub fn line_count(
     }
 }
 
+// The k-th line of the report, a rule's line sought from `start` on.
+fn line_from(
+    store: &Store,
+    arguments: &[u32],
+    rules: &[u32],
+    slots: &[u32],
+    line: &mut [u8],
+    k: u64,
+    start: &mut Start,
+) -> Result<usize, Refusal>
+    requires { Begins store.now rules.now k start.old }
+    ensures line { written result line.new ≡ on_buffer line.old (nth_line (report_of store.now arguments.now rules.now slots.now) k) }
+    ensures begins { Begins store.now rules.now k start.new }
+    ensures few { IfOk result (λ _. k ≤ size.positions + 2 * size.slots * size.rules + 1) }
+{
+    if line.len() != sizes::LINE || !is_report_sized(arguments.len(), rules.len(), slots.len()) {
+        return Err(Refusal::Shape);
+    }
+    match store.phase {
+        Phase::Absent | Phase::Open => Err(Refusal::Closed),
+        Phase::Completed => completed_line(store, arguments, rules, slots, line, k, start),
+        Phase::Stopped(stop, _) => stopped_line(store, line, stop, k),
+    }
+}
+
 // The k-th line of the report, from 0 on, into the buffer; answered is how long it is.
 // Refused by 1, a buffer or tables of other sizes, a run that has not ended; 5, a line that the report does not have.
 // Charges nothing.
@@ -340,12 +389,6 @@ pub fn report_line(
 ) -> Result<usize, Refusal>
     ensures { written result line.new ≡ on_buffer line.old (nth_line (report_of store.now arguments.now rules.now slots.now) k) }
 {
-    if line.len() != sizes::LINE || !is_report_sized(arguments.len(), rules.len(), slots.len()) {
-        return Err(Refusal::Shape);
-    }
-    match store.phase {
-        Phase::Absent | Phase::Open => Err(Refusal::Closed),
-        Phase::Completed => completed_line(store, arguments, rules, slots, line, k),
-        Phase::Stopped(stop, _) => stopped_line(store, line, stop, k),
-    }
+    let mut start = Start { rule: 0, before: 0 };
+    line_from(store, arguments, rules, slots, line, k, &mut start)
 }

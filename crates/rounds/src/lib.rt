@@ -2,7 +2,7 @@
 //! slots stand in tables of its own application and are dropped with it; where a round is stopped, nothing of its result stays live.
 #![tactic(auto)]
 
-ghost use Rattle.std.specs.Prelude.{ℕ, ◌≡◌, ◌*◌, length};
+ghost use Rattle.std.specs.Prelude.{ℕ, List, ◌≡◌, ◌*◌, length};
 ghost use Rattle.sizes.specs.Sizes as size;
 ghost use Rattle.limits.specs.declared.Stop.{Stop};
 ghost use Rattle.limits.specs.Metered.{Metered, answered};
@@ -12,8 +12,8 @@ ghost use Rattle.lattice.specs.Lattice.{join};
 ghost use Rattle.refinements.specs.Refinement.{refinements_of};
 ghost use Rattle.evaluation.specs.Operands.{input_in};
 ghost use Rattle.transfer.specs.Transfer.{frame};
-ghost use Rattle.rounds.specs.Locals.{Locals, fill, with_locals};
-ghost use Rattle.rounds.specs.Round.{Given, standing, join_owned, join_head, each_rule, produce, candidates_of, candidates};
+ghost use Rattle.rounds.specs.Locals.{Locals, fill, drop_locals, with_locals};
+ghost use Rattle.rounds.specs.Round.{Given, standing, join_owned, join_head, each_rule, produce, image, candidates_of, candidates};
 ghost use Rattle.rounds.specs.Lent.{given_in, locals_in, joining};
 
 use evaluation::Input;
@@ -63,7 +63,7 @@ pub trait Task {
 }
 
 // Into tables that are lent: the slots of one rule, a unit of work before them.
-fn fill(
+pub fn fill(
     input: &Input,
     rules: &[u32],
     arguments: &[u32],
@@ -86,6 +86,14 @@ fn fill(
         id,
         meter,
     )
+}
+
+// The slots of a rule are dropped, whichever way its use has ended.
+pub fn drop_locals(domains: &[u32], produced: &[u32], count: usize, meter: &mut Meter)
+    ensures { (rows : List ℕ) → slots meter.new rows ≡ drop_locals count domains.now produced.now (slots meter.old rows) }
+{
+    slots::drop_rows(produced, count, meter);
+    slots::drop_rows(domains, count, meter);
 }
 
 // One rule of a walk: its slots, and what is done with them. They stand in as many of the lent cells as the rule has slots, whatever the cells
@@ -125,8 +133,7 @@ fn with_locals<T: Task>(
         recorded,
     };
     let done = task.apply(given, &locals, table, id, meter);
-    slots::drop_rows(produced, count, meter);
-    slots::drop_rows(domains, count, meter);
+    drop_locals(domains, produced, count, meter);
     done
 }
 
@@ -250,7 +257,9 @@ fn produce(
     joined
 }
 
-// One round: the rules applied to the previous values, in a lent table of as many rows as there are arguments, whatever it held.
+// One round: the rules applied to the previous values, in a lent table of as many rows as there are arguments. What it makes is the same
+// whatever the table held. A refused round wipes nothing: the table stays as it was where the round itself is refused, and else holds what
+// was written before the refusal, the copied seeds and the joined heads.
 pub fn image(
     given: &Given,
     previous: &[u32],
@@ -259,7 +268,8 @@ pub fn image(
     course: &mut Course,
 ) -> Result<(), Stop>
     requires { (length res.old ≡ size.value_row * given.now.positions) × (length scratch.old ≡ size.local_cells) }
-    ensures { candidates_of (answered result (standing course.new.budget course.new.context res.new)) ≡ candidates (given_in given.now) previous.now course.old }
+    ensures made { candidates_of (answered result (standing course.new.budget course.new.context res.new)) ≡ candidates (given_in given.now) previous.now course.old }
+    ensures left { answered result (standing course.new.budget course.new.context res.new) ≡ image (given_in given.now) previous.now (standing course.old.budget course.old.context res.old) }
 {
     course.budget.pay(Resource::Rounds, 1)?;
     produce(given, previous, res, scratch, course)

@@ -39,7 +39,8 @@ pub fn seek<F: Fn(usize) -> Ordering>(
     Ok(Err(low))
 }
 
-// A value at its place; what stood from there up to `count` goes one place up. Nothing is written beyond the table.
+// A value at its place; what stood from there up to `count` goes one place up. Nothing is written beyond the table. One item is in hand at a time:
+// std's `rotate_right` would have the archive for C ask for one function more of the C library.
 pub fn insert<T: Copy>(table: &mut [T], at: usize, count: usize, value: T)
     ensures { table.new ≡ inserted table.old at count value }
 {
@@ -47,6 +48,11 @@ pub fn insert<T: Copy>(table: &mut [T], at: usize, count: usize, value: T)
         return;
     }
     let last = count.clamp(at, table.len() - 1);
-    table[at..last + 1].rotate_right(1);
-    table[at] = value;
+    let mut carried = value;
+    for i in at..last {
+        let next = table[i];
+        table[i] = carried;
+        carried = next;
+    }
+    table[last] = carried;
 }

@@ -4,4 +4,6 @@ use Rattle.keys.proofs.CodeLaws.{name_put}
 use Rattle.keys.proofs.put_name.Goals as goal
 
 pub returns : goal.returns
-returns c = name_put _ _ _ (omega (arith, c.saturating_mul.ensures, c.min-start.ensures)) c.args.text.now _ _ c.min.ensures (omega arith) c.copy_from_slice.ensures.after
+returns c =
+    let s = c.loop-i.invariant in
+    name_put c.args.names.now c.args.id c.min-start.result (omega (arith, c.saturating_mul.ensures, c.min-start.ensures)) c.args.text.now c.loop-i.i s.1 s.0 (omega (arith, c.loop-i.auto, c.loop-i-test.false, c.min-len.ensures))

@@ -1,29 +1,7 @@
 -- `report::report_line` meets its contract.
-use mathlib.Core.Path.{ap, sym, ◌∙◌}
-use Rattle.limits.specs.declared.Refusal.TheVariants.{Closed, Shape}
-use Rattle.report.specs.Report.{nth_line}
-use Rattle.report.proofs.LineLaws.{lined_shape, lined_refused}
-use Rattle.report.proofs.ReportLaws.{report_shape, report_phase, not_ended}
-use Rattle.report.proofs.report_line.Goals.{then-line-ne-LINE-via-then-line-ne-LINE, then-line-ne-LINE-via-else-line-ne-LINE+then-not-is_report_sized}
+use native.Mathlib.Omega.{arith}
+use Rattle.report.proofs.ReportLaws.{none_before}
 use Rattle.report.proofs.report_line.Goals as goal
 
-pub returns-then-line-ne-LINE : goal.returns-then-line-ne-LINE
-returns-then-line-ne-LINE c = elim c.then-line-ne-LINE.branch [
-  | then-line-ne-LINE-via-then-line-ne-LINE w ↦ lined_shape c.args.line.now _ w.if-line-ne-LINE.true
-  | then-line-ne-LINE-via-else-line-ne-LINE+then-not-is_report_sized w ↦
-      lined_refused c.args.line.now _ Shape w.if-line-ne-LINE.false
-      (ap (λ r. nth_line r c.args.k) (report_shape c.args.store.now c.args.arguments.now c.args.rules.now c.args.slots.now (sym w.is_report_sized.ensures ∙ w.if-not-is_report_sized.true)))
-]
-
-pub returns-in-Absent : goal.returns-in-Absent
-returns-in-Absent c =
-    lined_refused c.args.line.now _ Closed c.if-line-ne-LINE.false
-    (ap (λ r. nth_line r c.args.k) (not_ended c.args.store.now c.args.arguments.now c.args.rules.now c.args.slots.now (sym c.is_report_sized.ensures ∙ c.if-not-is_report_sized.false) c.in-Absent.is))
-
-pub returns-in-Completed : goal.returns-in-Completed
-returns-in-Completed c =
-    rw (report_phase c.args.store.now c.args.arguments.now c.args.rules.now c.args.slots.now (sym c.is_report_sized.ensures ∙ c.if-not-is_report_sized.false) c.in-Completed.is) c.completed_line.ensures
-
-pub returns-in-Stopped : goal.returns-in-Stopped
-returns-in-Stopped c =
-    rw (report_phase c.args.store.now c.args.arguments.now c.args.rules.now c.args.slots.now (sym c.is_report_sized.ensures ∙ c.if-not-is_report_sized.false) c.in-Stopped.is) c.stopped_line.ensures
+pub line_from-requires : goal.line_from-requires
+line_from-requires c = (omega arith, none_before c.args.rules.now, omega arith)

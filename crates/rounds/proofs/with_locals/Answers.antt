@@ -41,7 +41,7 @@ returns g c =
     let a = c.args in
     let size = rw c.slots_at-count.ensures at c.split_at_mut-domains.ensures.front_len in
     let size' = rw c.slots_at-count.ensures at c.split_at_mut-produced.ensures.front_len in
-    rw (c.drop_rows-2.ensures, c.drop_rows.ensures, c.slots_at-count.ensures)
+    rw (c.drop_locals.ensures _, c.slots_at-count.ensures)
     (bind_on _ _ _ (through_on _ _ _ _ _ _
     (filled_on (input_in a.given.now.input) a.given.now.rules.now a.id a.arguments.now a.meter.now _ _ _ size size' (length-take-le refinement_cells c.split_at_mut-refinements.result.0.now (omega (arith, c.split_at_mut-refinements.ensures.front_len))) _ c.fill.ensures c.in_ok-recorded.was))
     (answered_through _ _ _ _ _ _ c.apply-done.ensures))

@@ -1,7 +1,7 @@
--- `report::place_of` meets its contract.
+-- `report::place_from` meets its contract.
 use native.Mathlib.Omega.{arith}
 use Rattle.report.proofs.ReportLaws.{none_before, more_before}
-use Rattle.report.proofs.place_of.Goals as goal
+use Rattle.report.proofs.place_from.Goals as goal
 
 pub loop-rule-init : goal.loop-rule-init
 loop-rule-init c = omega (arith, none_before c.args.rules.now)
